@@ -1,0 +1,49 @@
+-- What `allBelow` and `allIn` say at one place, and lengths of `upTo`. Assumes nothing.
+use mathlib.Core.Path.{_≡_, refl}
+use mathlib.Core.Bool.{Bool, true, false, _&&_, true≢false, false≢true}
+use mathlib.Core.List.{List, [], _∷_, _++_}
+use mathlib.Core.Logic.{⊎-elim}
+use Prim.Native.Nat.{ℕ, zero, suc, _<_, _≤_}
+use native.Mathlib.Nat.{eq-or-lt-of-le, le-of-suc-le-suc}
+use native.Mathlib.Omega.{arith}
+use lib.ListN.{length, getD, length-append}
+use Rattle.lists.specs.Counted.{upTo, allBelow, allIn, bit}
+use Rattle.lists.proofs.Choice.{and-l, and-r, and-both}
+
+pub allBelow-at : (f : ℕ → Bool) (n : ℕ) → allBelow f n ≡ true → (i : ℕ) → i < n → f i ≡ true
+unfolding allBelow
+allBelow-at f zero e i h = absurd (omega arith)
+allBelow-at f (suc n) e i h =
+    ⊎-elim (λ p. rw p (and-l (f n) (allBelow f n) e)) (allBelow-at f n (and-r (f n) (allBelow f n) e) i)
+    (eq-or-lt-of-le (le-of-suc-le-suc h))
+
+pub allBelow-of : (f : ℕ → Bool) (n : ℕ) → ((i : ℕ) → i < n → f i ≡ true) → allBelow f n ≡ true
+unfolding allBelow
+allBelow-of f zero g = refl
+allBelow-of f (suc n) g = and-both (f n) (allBelow f n) (g n (omega arith)) (allBelow-of f n (λ i h. g i (omega arith)))
+
+-- one number at which the test fails
+pub allBelow-not : (f : ℕ → Bool) (n i : ℕ) → i < n → f i ≡ false → allBelow f n ≡ false
+allBelow-not f n i h e = go (allBelow f n) (λ t. allBelow-at f n t i h)
+  where
+    go : (b : Bool) → (b ≡ true → f i ≡ true) → b ≡ false
+    go false k = refl
+    go true k = let z : true ≡ false = cc (k refl) in absurd (true≢false z)
+
+pub allIn-at : (f : ℕ → Bool) (l : List ℕ) → allIn f l ≡ true → (i : ℕ) → i < length l → f (getD l i 0) ≡ true
+unfolding allIn
+allIn-at f [] e i h = absurd (omega arith)
+allIn-at f (x ∷ xs) e zero h = and-l (f x) (allIn f xs) e
+allIn-at f (x ∷ xs) e (suc i) h = allIn-at f xs (and-r (f x) (allIn f xs) e) i (omega arith)
+
+pub bit-injective : (a b : Bool) → bit a ≡ bit b → a ≡ b
+bit-injective true true e = refl
+bit-injective true false e = absurd (omega arith)
+bit-injective false true e = absurd (omega arith)
+bit-injective false false e = refl
+
+-- one word for each number: as many words
+pub length-upTo : (g : ℕ → ℕ) (n : ℕ) → length (upTo (λ i. g i ∷ []) n) ≡ n
+unfolding upTo
+length-upTo g zero = refl
+length-upTo g (suc n) = omega (arith, length-append (upTo (λ i. g i ∷ []) n) (g n ∷ []), length-upTo g n)

@@ -1,0 +1,4 @@
+pub mod Choice
+pub mod Counted
+pub mod Rest
+pub mod Written

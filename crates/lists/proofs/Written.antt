@@ -1,0 +1,35 @@
+-- Laws of `written`: runs one after the other are one run, the length stays, and a run from the front is in front of the rest.
+-- Assumes nothing.
+use mathlib.Core.Path.{_≡_, refl, _∙_}
+use mathlib.Core.List.{List, [], _∷_, _++_}
+use Prim.Native.Nat.{ℕ, suc, _+_, _≤_}
+use native.Mathlib.Nat.{add-zero, zero-add}
+use native.Mathlib.Numerals.{add-one}
+use native.Mathlib.Omega.{arith}
+use lib.ListN.{length, drop, set, length-set}
+use lib.Seq.{sets, sets-eq}
+use Rattle.lists.specs.Written.{written, front}
+
+pub length-written : (l : List ℕ) (at : ℕ) (ws : List ℕ) → length (written l at ws) ≡ length l
+unfolding written
+length-written l at [] = refl
+length-written l at (w ∷ ws) = length-written (set l at w) (at + 1) ws ∙ length-set l at w
+
+-- what one emitter wrote, and the next behind it
+pub written-append : (l : List ℕ) (at : ℕ) (xs ys : List ℕ) → written (written l at xs) (at + length xs) ys ≡ written l at (xs ++ ys)
+unfolding written
+written-append l at [] ys = rw add-zero refl
+written-append l at (x ∷ xs) ys =
+    let e : at + suc (length xs) ≡ at + 1 + length xs = omega arith in
+    rw e (written-append (set l at x) (at + 1) xs ys)
+
+as-sets : (l : List ℕ) (at : ℕ) (ws : List ℕ) → written l at ws ≡ sets l at ws
+unfolding written
+as-sets l at [] = refl
+as-sets l at (w ∷ ws) = rw add-one (as-sets (set l at w) (suc at) ws)
+
+pub written-front : (l ws : List ℕ) → length ws ≤ length l → written l 0 ws ≡ front ws l
+unfolding front
+written-front l ws h =
+    let k : 0 + length ws ≤ length l = omega arith in
+    as-sets l 0 ws ∙ sets-eq ws l 0 k ∙ rw zero-add refl

@@ -1,0 +1,30 @@
+-- What is said of each number below a bound, and of each element of a list.
+use Prim.Native.Nat.{ℕ, zero, suc}
+use mathlib.Core.Bool.{Bool, true, false, _&&_, _||_}
+use mathlib.Core.List.{List, [], _∷_, _++_}
+use lib.Dec.{eqb}
+
+-- f 0, f 1, .., f (n - 1), one behind the other
+unfoldable pub upTo : (ℕ → List ℕ) → ℕ → List ℕ
+upTo f zero = []
+upTo f (suc n) = upTo f n ++ f n
+
+-- the test passes at 0, 1, .., n - 1
+unfoldable pub allBelow : (ℕ → Bool) → ℕ → Bool
+allBelow f zero = true
+allBelow f (suc n) = f n && allBelow f n
+
+-- the test passes at each element
+unfoldable pub allIn : (ℕ → Bool) → List ℕ → Bool
+allIn f [] = true
+allIn f (x ∷ xs) = f x && allIn f xs
+
+-- x stands in the list
+unfoldable pub elem : ℕ → List ℕ → Bool
+elem x [] = false
+elem x (y ∷ ys) = eqb x y || elem x ys
+
+-- 1 for true
+abbrev pub bit : Bool → ℕ
+bit true = 1
+bit false = 0

@@ -1,0 +1,163 @@
+//! Document 01's numbers, from its table and not from the original. The original refuses only
+//! by 8, 9 and 10; these tests keep the other cases away from it.
+
+use crate::lent::COSTS;
+use crate::original::{Block, Corner, Palette};
+
+/// The number for a search, 0 if accepted. Test 7 is about room and has no place here.
+pub fn search_number(block: &Block) -> u32 {
+    let top = f64::from(top(block.bd.clamp(8, 12)));
+    let outside = |v: f32, end: f64| !(0.0..=end).contains(&f64::from(v));
+    if !sides_fit(block.w, block.h) {
+        1
+    } else if !(8..=12).contains(&block.bd) {
+        2
+    } else if block.samples.len() != block.w * block.h {
+        3
+    } else if outside(block.lambda, f64::from(1 << 20)) {
+        4
+    } else if block.costs.iter().any(|&cost| outside(cost, 32.0)) {
+        5
+    } else if block.samples.iter().any(|&sample| outside(sample, top)) {
+        6
+    } else {
+        none_number(&block.samples, block.w, block.h)
+    }
+}
+
+/// Which of 8, 9 and 10 a block gets, else 0.
+pub fn none_number(samples: &[f32], w: usize, h: usize) -> u32 {
+    if w < 16 && h < 16 {
+        return 8;
+    }
+    match levels(samples).len() {
+        1 => 9,
+        2..=32 => 0,
+        _ => 10,
+    }
+}
+
+/// The levels of a block, ascending.
+pub fn levels(samples: &[f32]) -> Vec<u32> {
+    let mut levels: Vec<u32> = samples.iter().map(|&sample| level(sample)).collect();
+    levels.sort_unstable();
+    levels.dedup();
+    levels
+}
+
+/// Half away from zero, for a sample not below 0. The sum is exact in f64.
+pub fn level(sample: f32) -> u32 {
+    (f64::from(sample) + 0.5).floor() as u32
+}
+
+pub fn top(bd: u32) -> u32 {
+    (1 << bd) - 1
+}
+
+fn sides_fit(w: usize, h: usize) -> bool {
+    (1..=64).contains(&w) && (1..=64).contains(&h)
+}
+
+/// The number for a listing, 0 if accepted. Test 16 is about room and has no place here.
+pub fn list_number(palette: &Palette, cache: &[u16]) -> u32 {
+    if cache.len() > 64 && matches!(palette_number(palette), 0 | 14 | 15) {
+        return 13;
+    }
+    palette_number(palette)
+}
+
+/// The number for `pred`, 0 if accepted.
+pub fn palette_number(palette: &Palette) -> u32 {
+    let (lines, len) = lines(palette);
+    if !sides_fit(palette.w, palette.h) {
+        1
+    } else if !(8..=12).contains(&palette.bd) {
+        2
+    } else if !colors_fit(&palette.colors, palette.bd) {
+        11
+    } else if palette.transposed && (palette.w == 64 || palette.h == 64) {
+        12
+    } else if palette.map.len() != lines * len || palette.flags.len() != lines {
+        14
+    } else if !indices_fit(palette) || !flags_fit(palette) {
+        15
+    } else {
+        0
+    }
+}
+
+fn colors_fit(colors: &[u16], bd: u32) -> bool {
+    (2..=8).contains(&colors.len())
+        && colors.windows(2).all(|pair| pair[0] < pair[1])
+        && colors.iter().all(|&color| u32::from(color) <= top(bd))
+}
+
+/// The number of lines and the cells of each.
+pub fn lines(palette: &Palette) -> (usize, usize) {
+    if palette.transposed {
+        (palette.w, palette.h)
+    } else {
+        (palette.h, palette.w)
+    }
+}
+
+/// The cells of a line: a row, or a column when transposed.
+pub fn line(palette: &Palette, number: usize) -> Vec<u8> {
+    let (_, len) = lines(palette);
+    let cell = |at| {
+        if palette.transposed {
+            palette.map[at * palette.w + number]
+        } else {
+            palette.map[number * palette.w + at]
+        }
+    };
+    (0..len).map(cell).collect()
+}
+
+fn indices_fit(palette: &Palette) -> bool {
+    palette.map.iter().all(|&index| usize::from(index) < palette.colors.len())
+}
+
+fn flags_fit(palette: &Palette) -> bool {
+    palette.flags.iter().enumerate().all(|(number, &flag)| {
+        let cells = line(palette, number);
+        match flag {
+            0 => true,
+            1 => cells.iter().all(|&index| index == cells[0]),
+            2 => number > 0 && cells == line(palette, number - 1),
+            _ => false,
+        }
+    })
+}
+
+/// The number for a context, 0 if accepted.
+pub fn context_number(corner: &Corner) -> u32 {
+    let (y, x) = (corner.y, corner.x);
+    let asked = (y, x) != (0, 0) && x < corner.stride && (2..=8).contains(&corner.n);
+    let fits = |place: u128| {
+        let index = usize::try_from(place).ok().and_then(|place| corner.map.get(place));
+        index.is_some_and(|&index| usize::from(index) < corner.n)
+    };
+    if asked && neighbours(corner).into_iter().all(fits) {
+        0
+    } else {
+        18
+    }
+}
+
+/// The places of the neighbours that the context uses; in u128, where no product overflows.
+pub fn neighbours(corner: &Corner) -> Vec<u128> {
+    let (stride, y, x) = (corner.stride as u128, corner.y as u128, corner.x as u128);
+    let place = |y: u128, x: u128| y * stride + x;
+    match (y, x) {
+        (0, 0) => vec![],
+        (0, _) => vec![place(0, x - 1)],
+        (_, 0) => vec![place(y - 1, 0)],
+        _ => vec![place(y, x - 1), place(y - 1, x - 1), place(y - 1, x)],
+    }
+}
+
+/// Test 5 where the table may have any length.
+pub fn costs_have_length(costs: &[f32]) -> bool {
+    costs.len() == COSTS
+}

@@ -1,0 +1,115 @@
+//! The lent table of costs, and the cell that stands in for `std::sync::OnceLock` in the original.
+//!
+//! The original fills its costs once per process. Here each call has a table of its own, so the
+//! cell fills anew whenever another table was lent on this thread, and only then: a driver that
+//! lends the same table again times the search alone.
+
+use crate::places;
+use std::any::Any;
+use std::cell::RefCell;
+use std::marker::PhantomData;
+
+/// Mode 2, size 7, row 4 x 3, colour 7 x 5 x 8.
+pub const COSTS: usize = 301;
+pub type Costs = [f32; COSTS];
+
+struct Table {
+    costs: Costs,
+    /// Counts the tables lent, so that the cell sees a new one without comparing costs.
+    generation: u64,
+    /// The place after the last cost handed out.
+    next: usize,
+}
+
+/// The filled value of the last table seen. Its box is used again for the next one.
+struct Kept {
+    generation: u64,
+    value: Box<dyn Any>,
+}
+
+thread_local! {
+    static TABLE: RefCell<Table> =
+        const { RefCell::new(Table { costs: [0.0; COSTS], generation: 0, next: 0 }) };
+    static KEPT: RefCell<Option<Kept>> = const { RefCell::new(None) };
+}
+
+/// Lends `costs` to the calls that follow on this thread.
+pub(crate) fn lend(costs: &Costs) {
+    TABLE.with_borrow_mut(|table| {
+        if !same_bits(&table.costs, costs) {
+            table.costs = *costs;
+            table.generation += 1;
+        }
+    });
+}
+
+/// By bits, since 0.0 and -0.0 are two tables.
+fn same_bits(one: &Costs, other: &Costs) -> bool {
+    one.iter().zip(other).all(|(a, b)| a.to_bits() == b.to_bits())
+}
+
+/// The next cost in the table's order. The original does not say which place it asks for; the
+/// order of its asking does, and each ask is held against the row that belongs to the place.
+pub(crate) fn hand_out(icdf: &[u16], symbol: usize, symbols: usize) -> f32 {
+    TABLE.with_borrow_mut(|table| {
+        let place = places::used_from(table.next).expect("more costs asked for than lent");
+        let due = places::ask_at(place);
+        assert_eq!((icdf, symbol, symbols), due, "costs asked for in another order");
+        table.next = place + 1;
+        table.costs[place]
+    })
+}
+
+fn start_handing_out() -> u64 {
+    TABLE.with_borrow_mut(|table| {
+        table.next = 0;
+        table.generation
+    })
+}
+
+fn all_handed_out() -> bool {
+    TABLE.with_borrow(|table| places::used_from(table.next).is_none())
+}
+
+/// Has the part of `std::sync::OnceLock` that the original uses.
+pub(crate) struct OnceLock<T> {
+    value: PhantomData<fn() -> T>,
+}
+
+impl<T: 'static> OnceLock<T> {
+    pub(crate) const fn new() -> Self {
+        OnceLock { value: PhantomData }
+    }
+
+    /// The value filled from the table now lent.
+    pub(crate) fn get_or_init(&'static self, init: impl FnOnce() -> T) -> &'static T {
+        let generation = start_handing_out();
+        KEPT.with_borrow_mut(|kept| {
+            if kept.as_ref().is_none_or(|k| k.generation != generation) {
+                let value = init();
+                assert!(all_handed_out(), "fewer costs asked for than lent");
+                keep(kept, generation, value);
+            }
+            let value: *const T = kept_value(kept);
+            // SAFETY: the box is never freed before the thread ends, and it is overwritten only
+            // here after another `lend`, which `search` does before it calls the original and
+            // never while a reference from an earlier call is alive.
+            unsafe { &*value }
+        })
+    }
+}
+
+fn keep<T: 'static>(kept: &mut Option<Kept>, generation: u64, value: T) {
+    match kept {
+        Some(k) => {
+            *k.value.downcast_mut().expect("the original has one cell only") = value;
+            k.generation = generation;
+        }
+        None => *kept = Some(Kept { generation, value: Box::new(value) }),
+    }
+}
+
+fn kept_value<T: 'static>(kept: &Option<Kept>) -> &T {
+    let kept = kept.as_ref().expect("filled before");
+    kept.value.downcast_ref().expect("the original has one cell only")
+}

@@ -1,0 +1,23 @@
+//! The original palette search, run as it stands, for answers to hold ours against.
+
+/// The original's module path: its file names `crate::av2::entropy`.
+mod av2 {
+    #[path = "../recorder.rs"]
+    pub(crate) mod entropy;
+    include!(concat!(env!("OUT_DIR"), "/original.rs"));
+}
+
+mod c_interface;
+pub mod check;
+pub mod generate;
+mod lent;
+mod original;
+mod places;
+pub mod text;
+pub mod worked;
+
+pub use c_interface::{rs_block_allowed, rs_context, rs_list, rs_pred, rs_search};
+pub use lent::{Costs, COSTS};
+pub use original::{
+    block_allowed, context, list, pred, raw_width, search, unpack, Block, Corner, Found, Palette,
+};
