@@ -31,7 +31,9 @@ pub unsafe extern "C" fn rs_search(
     fields.copy_from_slice(&found_fields(answer.as_ref()));
     *bits = answer.as_ref().map_or(0.0, |found| found.bits);
     let Some(Found { palette, .. }) = answer else {
-        return none_number(samples, w, h);
+        let number = none_number(samples, w, h);
+        assert_ne!(number, 0, "the original declines a block that document 01 accepts");
+        return number;
     };
     copy_out(&palette.map, map);
     copy_out(&palette.flags, flags);

@@ -1,7 +1,6 @@
 //! Document 01's numbers, from its table and not from the original. The original refuses only
 //! by 8, 9 and 10; these tests keep the other cases away from it.
 
-use crate::lent::COSTS;
 use crate::original::{Block, Corner, Palette};
 
 /// The number for a search, 0 if accepted. Test 7 is about room and has no place here.
@@ -155,9 +154,4 @@ pub fn neighbours(corner: &Corner) -> Vec<u128> {
         (_, 0) => vec![place(y - 1, 0)],
         _ => vec![place(y, x - 1), place(y - 1, x - 1), place(y - 1, x)],
     }
-}
-
-/// Test 5 where the table may have any length.
-pub fn costs_have_length(costs: &[f32]) -> bool {
-    costs.len() == COSTS
 }

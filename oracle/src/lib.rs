@@ -2,7 +2,6 @@
 
 /// The original's module path: its file names `crate::av2::entropy`.
 mod av2 {
-    #[path = "../recorder.rs"]
     pub(crate) mod entropy;
     include!(concat!(env!("OUT_DIR"), "/original.rs"));
 }

@@ -1,0 +1,2 @@
+pub mod Palette
+pub mod Accepted

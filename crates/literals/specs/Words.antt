@@ -1,0 +1,25 @@
+-- Document 01, 'Call words' and 'Raw width'.
+use Prim.Native.Nat.{ℕ, _+_, _*_, _/_, _%_, _^_}
+use mathlib.Core.Bool.{cond}
+use mathlib.Core.List.{List, [], _∷_}
+use lib.Dec.{eqb}
+use Rattle.counts.specs.Counts.{ceilLog2}
+
+-- kind × 2^24 + first × 2^16 + second
+unfoldable pub word : ℕ → ℕ → ℕ → ℕ
+word kind first second = kind * 2 ^ 24 + first * 2 ^ 16 + second
+
+-- kind 1: width and value
+abbrev pub bypass : ℕ → ℕ → ℕ
+bypass width value = word 1 width value
+
+-- what one call adds to the raw width: a bypass call its width, the uniform call of n values ceil_log2(n)
+unfoldable pub rawBits : ℕ → ℕ
+rawBits c =
+    let kind = c / 2 ^ 24 in
+    let first = c / 2 ^ 16 % 256 in
+    cond (eqb kind 1) first (cond (eqb kind 2) (ceilLog2 first) 0)
+
+unfoldable pub rawWidth : List ℕ → ℕ
+rawWidth [] = 0
+rawWidth (c ∷ cs) = rawBits c + rawWidth cs

@@ -1,0 +1,96 @@
+//! Answers of the original, for cases read or generated.
+
+use palette_oracle::generate::{blocks, caches, contexts, palettes};
+use palette_oracle::text::{answer, parse, Case};
+use palette_oracle::worked;
+use std::io::{self, BufRead, BufWriter, Write};
+use std::process::ExitCode;
+
+const USAGE: &str = "usage: oracle answer | blocks SEED COUNT | lists SEED COUNT | contexts SEED COUNT | worked";
+
+fn main() -> ExitCode {
+    let arguments: Vec<String> = std::env::args().skip(1).collect();
+    let arguments: Vec<&str> = arguments.iter().map(String::as_str).collect();
+    let result = match arguments[..] {
+        ["answer"] => answer_cases(),
+        ["blocks", seed, count] => print_cases(seed, count, block_case),
+        ["lists", seed, count] => print_cases(seed, count, list_case),
+        ["contexts", seed, count] => print_cases(seed, count, context_case),
+        ["worked"] => return print_worked(),
+        _ => Err(USAGE.to_string()),
+    };
+    match result {
+        Ok(()) => ExitCode::SUCCESS,
+        Err(message) => {
+            eprintln!("{message}");
+            ExitCode::FAILURE
+        }
+    }
+}
+
+/// Prints each case with its answer. Answers that were in the text are made anew, so a list put
+/// through comes out as it was.
+fn answer_cases() -> Result<(), String> {
+    let mut out = BufWriter::new(io::stdout().lock());
+    for (number, line) in io::stdin().lock().lines().enumerate() {
+        let line = line.map_err(|e| e.to_string())?;
+        if line.starts_with('=') {
+            continue;
+        }
+        put(&mut out, &line)?;
+        if !line.is_empty() && !line.starts_with('#') {
+            let case = parse(&line).map_err(|e| format!("line {}: {e}", number + 1))?;
+            put(&mut out, &answer(&case))?;
+        }
+    }
+    out.flush().map_err(|e| e.to_string())
+}
+
+fn put(out: &mut impl Write, line: &str) -> Result<(), String> {
+    writeln!(out, "{line}").map_err(|e| e.to_string())
+}
+
+/// A case and the names of its kinds.
+type Named = (Case, String);
+
+fn print_cases(seed: &str, count: &str, case: fn(u64, u64) -> Named) -> Result<(), String> {
+    let seed: u64 = seed.parse().map_err(|e| format!("seed {seed}: {e}"))?;
+    let count: u64 = count.parse().map_err(|e| format!("count {count}: {e}"))?;
+    let mut out = BufWriter::new(io::stdout().lock());
+    for index in 0..count {
+        let (case, names) = case(seed, index);
+        put(&mut out, &format!("# {index} {names}"))?;
+        put(&mut out, &case.to_string())?;
+        put(&mut out, &answer(&case))?;
+    }
+    out.flush().map_err(|e| e.to_string())
+}
+
+fn block_case(seed: u64, index: u64) -> Named {
+    let (block, kinds) = blocks::block(seed, index);
+    (Case::Search(block), kinds.names())
+}
+
+fn list_case(seed: u64, index: u64) -> Named {
+    let (palette, kinds) = palettes::palette(seed, index);
+    let (cache, cache_kind) = caches::cache(seed, index, &palette);
+    let names = format!("{} cache={}", palettes::names(kinds), cache_kind.name());
+    (Case::List(palette, cache), names)
+}
+
+fn context_case(seed: u64, index: u64) -> Named {
+    let (corner, kind) = contexts::corner(seed, index);
+    (Case::Context(corner), kind.name().to_string())
+}
+
+fn print_worked() -> ExitCode {
+    let checks = worked::checks();
+    for check in &checks {
+        println!("{check}");
+    }
+    if checks.iter().all(worked::Check::ok) {
+        ExitCode::SUCCESS
+    } else {
+        ExitCode::FAILURE
+    }
+}

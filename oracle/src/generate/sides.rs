@@ -1,0 +1,49 @@
+//! Sides, thick around the places where a rule changes.
+
+use super::random::Random;
+
+kinds! {
+    Side {
+        One = "1",
+        Fifteen = "15",
+        Sixteen = "16",
+        Middle = "middle",
+        SixtyThree = "63",
+        SixtyFour = "64",
+    }
+}
+
+/// The side that a kind is named after half of the time, else one close by.
+pub fn side(random: &mut Random) -> usize {
+    let (exact, low, high) = match random.pick(Side::ALL) {
+        Side::One => (1, 1, 4),
+        Side::Fifteen => (15, 12, 15),
+        Side::Sixteen => (16, 16, 18),
+        Side::Middle => (32, 4, 62),
+        Side::SixtyThree => (63, 60, 63),
+        Side::SixtyFour => (64, 62, 64),
+    };
+    if random.one_in(2) {
+        exact
+    } else {
+        random.between(low, high)
+    }
+}
+
+pub fn sides(random: &mut Random) -> (usize, usize) {
+    (side(random), side(random))
+}
+
+/// Sides for a search: those refused by 8 are made rare, as there is little to see in them.
+pub fn search_sides(random: &mut Random) -> (usize, usize) {
+    loop {
+        let (w, h) = sides(random);
+        if w.max(h) >= 16 || random.one_in(10) {
+            return (w, h);
+        }
+    }
+}
+
+pub fn depth(random: &mut Random) -> u32 {
+    random.between(8, 12) as u32
+}
