@@ -1,25 +1,14 @@
 -- Document 01, 'Numbers returned', 1, 2 and 11 to 15, and 'How far the wording reaches', 3: when a palette is accepted.
-use Prim.Native.Nat.{ℕ, zero, suc, _+_, _*_, _-_, _^_}
+use Prim.Native.Nat.{ℕ, zero, suc, _*_}
 use mathlib.Core.Path.{_≡_}
 use mathlib.Core.Bool.{Bool, true, false, cond, not, _&&_, _||_}
-use mathlib.Core.List.{List, [], _∷_}
+use mathlib.Core.List.{List}
 use lib.Dec.{eqb, leb, ltb}
 use lib.ListN.{length, getD}
-use Rattle.lists.specs.Counted.{allBelow, allIn}
+use Rattle.lists.specs.Counted.{within, allBelow, allIn}
 use Rattle.context.specs.Map.{lineCell, linesOf, lengthOf}
+use Rattle.literals.specs.Literals.{levelsOk}
 use Rattle.accept.specs.Palette.{Palette}
-
-abbrev pub within : ℕ → ℕ → ℕ → Bool
-within a b x = leb a x && leb x b
-
--- strictly ascending, all above c
-unfoldable pub above : ℕ → List ℕ → Bool
-above c [] = true
-above c (d ∷ ds) = ltb c d && above d ds
-
-unfoldable pub ascending : List ℕ → Bool
-ascending [] = true
-ascending (c ∷ cs) = above c cs
 
 -- 1: the sides
 unfoldable pub sidesOk : ℕ → ℕ → Bool
@@ -31,7 +20,7 @@ depthOk bd = within 8 12 bd
 
 -- 11: two to eight colours, strictly ascending, none above the top level
 unfoldable pub colorsOk : ℕ → List ℕ → Bool
-colorsOk bd cs = within 2 8 (length cs) && ascending cs && allIn (λ c. leb c (2 ^ bd - 1)) cs
+colorsOk bd cs = within 2 8 (length cs) && levelsOk bd cs
 
 -- 12: transposed only if both sides are below 64
 unfoldable pub orientOk : ℕ → ℕ → Bool → Bool
@@ -60,13 +49,13 @@ mapOk w h p =
     allIn (λ i. ltb i (length (p .colors))) (p .map)
     && allBelow (λ l. lineOk (getD (p .flags) l 0) (lineCell t (p .map) w) (lengthOf t w h) l) (linesOf t w h)
 
--- the first of 1, 2 and 11 to 15 that applies, or 0
-unfoldable pub refusal : ℕ → ℕ → ℕ → List ℕ → Palette → ℕ
-refusal w h bd cache p =
+-- the first of 1, 2 and 11 to 15 that applies, or 0; `cached` is the cache's length
+unfoldable pub refusal : ℕ → ℕ → ℕ → ℕ → Palette → ℕ
+refusal w h bd cached p =
     cond (sidesOk w h)
     (cond (depthOk bd)
     (cond (colorsOk bd (p .colors))
-    (cond (orientOk w h (p .transposed)) (cond (cacheOk (length cache)) (cond (countsOk w h p) (cond (mapOk w h p) 0 15) 14) 13) 12)
+    (cond (orientOk w h (p .transposed)) (cond (cacheOk cached) (cond (countsOk w h p) (cond (mapOk w h p) 0 15) 14) 13) 12)
     11)
     2)
     1

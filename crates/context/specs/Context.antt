@@ -2,9 +2,9 @@
 use Prim.Native.Nat.{ℕ, zero, suc, _+_, _-_, _*_}
 use mathlib.Core.Bool.{Bool, cond, _&&_}
 use mathlib.Core.List.{List, [], _∷_, _++_}
-use lib.Dec.{ltb, leb}
+use lib.Dec.{ltb}
 use lib.ListN.{length, getD, replicate}
-use Rattle.lists.specs.Counted.{allIn}
+use Rattle.lists.specs.Counted.{within, allIn}
 use Rattle.context.specs.Order.{Around, byThree, around, orderOf}
 use Rattle.context.specs.declared.Context.{Context}
 
@@ -18,7 +18,7 @@ used s (suc y) (suc x) = (suc y * s + x) ∷ (y * s + suc x) ∷ (y * s + x) ∷
 -- not at (0,0), x below the stride, n from 2 to 8, each used neighbour within the map and below n
 unfoldable pub contextOk : List ℕ → ℕ → ℕ → ℕ → ℕ → Bool
 contextOk map s y x n =
-    ltb 0 (y + x) && ltb x s && (leb 2 n && leb n 8) && allIn (λ p. ltb p (length map) && ltb (getD map p 0) n) (used s y x)
+    ltb 0 (y + x) && ltb x s && within 2 8 n && allIn (λ p. ltb p (length map) && ltb (getD map p 0) n) (used s y x)
 
 -- a context with its order in eight places: those past n are 0
 unfoldable pub answered : Around → ℕ → Context

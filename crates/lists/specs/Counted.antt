@@ -2,7 +2,11 @@
 use Prim.Native.Nat.{ℕ, zero, suc}
 use mathlib.Core.Bool.{Bool, true, false, _&&_, _||_}
 use mathlib.Core.List.{List, [], _∷_, _++_}
-use lib.Dec.{eqb}
+use lib.Dec.{eqb, ltb, leb}
+
+-- a ≤ x ≤ b
+abbrev pub within : ℕ → ℕ → ℕ → Bool
+within a b x = leb a x && leb x b
 
 -- f 0, f 1, .., f (n - 1), one behind the other
 unfoldable pub upTo : (ℕ → List ℕ) → ℕ → List ℕ
@@ -23,6 +27,15 @@ allIn f (x ∷ xs) = f x && allIn f xs
 unfoldable pub elem : ℕ → List ℕ → Bool
 elem x [] = false
 elem x (y ∷ ys) = eqb x y || elem x ys
+
+-- strictly ascending, all above c
+unfoldable pub above : ℕ → List ℕ → Bool
+above c [] = true
+above c (d ∷ ds) = ltb c d && above d ds
+
+unfoldable pub ascending : List ℕ → Bool
+ascending [] = true
+ascending (c ∷ cs) = above c cs
 
 -- 1 for true
 abbrev pub bit : Bool → ℕ

@@ -1,8 +1,15 @@
 -- Document 01, 'Literals'.
 use Prim.Native.Nat.{ℕ, _+_, _-_, _^_, max, min}
+use mathlib.Core.Bool.{Bool, _&&_}
 use mathlib.Core.List.{List, [], _∷_}
+use lib.Dec.{leb}
+use Rattle.lists.specs.Counted.{ascending, allIn}
 use Rattle.counts.specs.Counts.{ceilLog2}
 use Rattle.literals.specs.Words.{bypass}
+
+-- colours: strictly ascending, none above the top level
+unfoldable pub levelsOk : ℕ → List ℕ → Bool
+levelsOk bd cs = ascending cs && allIn (λ c. leb c (2 ^ bd - 1)) cs
 
 -- the largest step from c through the colours above it
 unfoldable pub largestStep : ℕ → List ℕ → ℕ

@@ -29,7 +29,8 @@ pub fn costs(random: &mut Random, kind: CostKind, bd: u32) -> Box<Costs> {
         CostKind::Zero => filled(|_| 0.0),
         CostKind::MinusZero => filled(|_| -0.0),
         CostKind::Equal => {
-            let cost = random.pick(&[1.0, 32.0, 0.1, uniform(random)]);
+            let any = uniform(random);
+            let cost = random.pick(&[1.0, 32.0, 0.1, any]);
             filled(|_| cost)
         }
         CostKind::Extreme => filled(|_| random.pick(&[0.0, -0.0, 32.0])),
