@@ -34,14 +34,18 @@ fn build() -> Result<(), String> {
 fn source_path() -> Result<PathBuf, String> {
     let folder = env::var(VARIABLE).unwrap_or_else(|_| DEFAULT_FOLDER.to_string());
     Path::new(&folder).join(FILE).canonicalize().map_err(|e| {
-        format!("{FILE} not found in folder {folder} ({e}); set {VARIABLE} to the folder that holds it")
+        format!(
+            "{FILE} not found in folder {folder} ({e}); set {VARIABLE} to the folder that holds it"
+        )
     })
 }
 
 fn swap_import(text: &str) -> Result<String, String> {
     let found = text.lines().filter(|line| *line == IMPORT).count();
     if found != 1 {
-        return Err(format!("{FILE}: expected the line `{IMPORT}` exactly once, found it {found} times"));
+        return Err(format!(
+            "{FILE}: expected the line `{IMPORT}` exactly once, found it {found} times"
+        ));
     }
     Ok(text.replacen(&format!("\n{IMPORT}\n"), &format!("\n{OURS}\n"), 1))
 }

@@ -32,7 +32,10 @@ pub unsafe extern "C" fn rs_search(
     *bits = answer.as_ref().map_or(0.0, |found| found.bits);
     let Some(Found { palette, .. }) = answer else {
         let number = none_number(samples, w, h);
-        assert_ne!(number, 0, "the original declines a block that document 01 accepts");
+        assert_ne!(
+            number, 0,
+            "the original declines a block that document 01 accepts"
+        );
         return number;
     };
     copy_out(&palette.map, map);
@@ -76,7 +79,11 @@ pub unsafe extern "C" fn rs_list(
     room: usize,
 ) -> usize {
     let palette = palette_in(w, h, bd, colors, n, transposed, map, flags);
-    let cache = if cached == 0 { &[] } else { slice::from_raw_parts(cache, cached) };
+    let cache = if cached == 0 {
+        &[]
+    } else {
+        slice::from_raw_parts(cache, cached)
+    };
     let list = original::list(&palette, cache);
     if room > 0 {
         copy_out(&list[..list.len().min(room)], words);

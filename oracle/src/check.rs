@@ -114,7 +114,10 @@ pub fn line(palette: &Palette, number: usize) -> Vec<u8> {
 }
 
 fn indices_fit(palette: &Palette) -> bool {
-    palette.map.iter().all(|&index| usize::from(index) < palette.colors.len())
+    palette
+        .map
+        .iter()
+        .all(|&index| usize::from(index) < palette.colors.len())
 }
 
 fn flags_fit(palette: &Palette) -> bool {
@@ -134,7 +137,9 @@ pub fn context_number(corner: &Corner) -> u32 {
     let (y, x) = (corner.y, corner.x);
     let asked = (y, x) != (0, 0) && x < corner.stride && (2..=8).contains(&corner.n);
     let fits = |place: u128| {
-        let index = usize::try_from(place).ok().and_then(|place| corner.map.get(place));
+        let index = usize::try_from(place)
+            .ok()
+            .and_then(|place| corner.map.get(place));
         index.is_some_and(|&index| usize::from(index) < corner.n)
     };
     if asked && neighbours(corner).into_iter().all(fits) {

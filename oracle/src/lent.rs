@@ -45,7 +45,9 @@ pub(crate) fn lend(costs: &Costs) {
 
 /// By bits, since 0.0 and -0.0 are two tables.
 fn same_bits(one: &Costs, other: &Costs) -> bool {
-    one.iter().zip(other).all(|(a, b)| a.to_bits() == b.to_bits())
+    one.iter()
+        .zip(other)
+        .all(|(a, b)| a.to_bits() == b.to_bits())
 }
 
 /// The next cost in the table's order. The original does not say which place it asks for; the
@@ -54,7 +56,11 @@ pub(crate) fn hand_out(icdf: &[u16], symbol: usize, symbols: usize) -> f32 {
     TABLE.with_borrow_mut(|table| {
         let place = places::used_from(table.next).expect("more costs asked for than lent");
         let due = places::ask_at(place);
-        assert_eq!((icdf, symbol, symbols), due, "costs asked for in another order");
+        assert_eq!(
+            (icdf, symbol, symbols),
+            due,
+            "costs asked for in another order"
+        );
         table.next = place + 1;
         table.costs[place]
     })
@@ -102,14 +108,23 @@ impl<T: 'static> OnceLock<T> {
 fn keep<T: 'static>(kept: &mut Option<Kept>, generation: u64, value: T) {
     match kept {
         Some(k) => {
-            *k.value.downcast_mut().expect("the original has one cell only") = value;
+            *k.value
+                .downcast_mut()
+                .expect("the original has one cell only") = value;
             k.generation = generation;
         }
-        None => *kept = Some(Kept { generation, value: Box::new(value) }),
+        None => {
+            *kept = Some(Kept {
+                generation,
+                value: Box::new(value),
+            })
+        }
     }
 }
 
 fn kept_value<T: 'static>(kept: &Option<Kept>) -> &T {
     let kept = kept.as_ref().expect("filled before");
-    kept.value.downcast_ref().expect("the original has one cell only")
+    kept.value
+        .downcast_ref()
+        .expect("the original has one cell only")
 }

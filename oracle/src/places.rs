@@ -3,21 +3,16 @@
 use crate::av2::palette::{COLOR_ICDF, ROW_ICDF, Y_MODE_ICDF, Y_SIZE_ICDF};
 use crate::lent::COSTS;
 
-pub const MODE: usize = 0;
-pub const SIZE: usize = 2;
-pub const ROW: usize = 9;
-pub const COLOR: usize = 21;
+pub(crate) const MODE: usize = 0;
+pub(crate) const SIZE: usize = 2;
+pub(crate) const ROW: usize = 9;
+pub(crate) const COLOR: usize = 21;
 
 // Statics, so that a row can be lent; a `const` would be copied at each use.
 static MODE_ROW: [u16; 1] = [Y_MODE_ICDF];
 static SIZE_ROW: [u16; 6] = Y_SIZE_ICDF;
 static ROW_ROWS: [[u16; 2]; 4] = ROW_ICDF;
 static COLOR_ROWS: [[[u16; 7]; 5]; 7] = COLOR_ICDF;
-
-/// The place of the colour cost of `n` colours under `context` at `rank`.
-pub fn color(n: usize, context: usize, rank: usize) -> usize {
-    COLOR + ((n - 2) * 5 + context) * 8 + rank
-}
 
 /// The cumulative row, the symbol in it and the number of its symbols at a place.
 pub(crate) fn ask_at(place: usize) -> (&'static [u16], usize, usize) {

@@ -18,13 +18,20 @@ impl Display for Case {
             Case::Search(b) => {
                 let (costs, samples) = (floats(&b.costs[..]), floats(&b.samples));
                 let lambda = b.lambda.to_bits();
-                write!(f, "search {} {} {} {lambda:08x} {costs} {samples}", b.w, b.h, b.bd)
+                write!(
+                    f,
+                    "search {} {} {} {lambda:08x} {costs} {samples}",
+                    b.w, b.h, b.bd
+                )
             }
             Case::List(p, cache) => {
                 let (orientation, cache) = (u8::from(p.transposed), packed(cache, 4));
                 let (colors, flags, map) = palette_fields(p);
                 let (w, h, bd) = (p.w, p.h, p.bd);
-                write!(f, "list {w} {h} {bd} {orientation} {colors} {flags} {map} {cache}")
+                write!(
+                    f,
+                    "list {w} {h} {bd} {orientation} {colors} {flags} {map} {cache}"
+                )
             }
             Case::Context(c) => {
                 let map = packed(&c.map, 2);
@@ -48,7 +55,10 @@ fn packed<T: LowerHex>(entries: &[T], digits: usize) -> String {
     if entries.is_empty() {
         return "-".to_string();
     }
-    entries.iter().map(|entry| format!("{entry:0digits$x}")).collect()
+    entries
+        .iter()
+        .map(|entry| format!("{entry:0digits$x}"))
+        .collect()
 }
 
 /// The answer to a case: the original's if document 01 accepts the case, else its number.
@@ -107,7 +117,9 @@ pub fn parse(line: &str) -> Result<Case, String> {
             h: whole(h)?,
             bd: whole(bd)? as u32,
             lambda: read_floats(lambda)?.first().copied().ok_or("no lambda")?,
-            costs: read_floats(costs)?.try_into().map_err(|_| "not 301 costs")?,
+            costs: read_floats(costs)?
+                .try_into()
+                .map_err(|_| "not 301 costs")?,
             samples: read_floats(samples)?,
         })),
         ["list", w, h, bd, orientation, colors, flags, map, cache] => {

@@ -24,13 +24,21 @@ impl Display for Check {
         if self.ok() {
             write!(f, "ok    {}: {}", self.name, self.got)
         } else {
-            write!(f, "WRONG {}: {}, expected {}", self.name, self.got, self.expected)
+            write!(
+                f,
+                "WRONG {}: {}, expected {}",
+                self.name, self.got, self.expected
+            )
         }
     }
 }
 
 fn check<T: Debug>(name: impl Into<String>, got: T, expected: T) -> Check {
-    Check { name: name.into(), got: format!("{got:?}"), expected: format!("{expected:?}") }
+    Check {
+        name: name.into(),
+        got: format!("{got:?}"),
+        expected: format!("{expected:?}"),
+    }
 }
 
 /// All worked blocks, in the document's order.
@@ -62,20 +70,48 @@ fn color_calls(colors: &[u16], cache: &[u16]) -> Vec<(u32, u32)> {
     };
     let words = list(&palette, cache);
     let calls = &words[1..words.len() - 3];
-    calls.iter().map(|&word| (unpack(word).1, unpack(word).2)).collect()
+    calls
+        .iter()
+        .map(|&word| (unpack(word).1, unpack(word).2))
+        .collect()
 }
 
 fn literal_checks() -> Vec<Check> {
-    let bits = |colors: &[u16]| color_calls(colors, &[]).iter().map(|call| call.0).sum::<u32>();
+    let bits = |colors: &[u16]| {
+        color_calls(colors, &[])
+            .iter()
+            .map(|call| call.0)
+            .sum::<u32>()
+    };
     vec![
-        check("16, 80, 235", color_calls(&[16, 80, 235], &[]), vec![(8, 16), (2, 3), (8, 63), (8, 154)]),
-        check("250, 253, 255", color_calls(&[250, 253, 255], &[]), vec![(8, 250), (2, 0), (5, 2), (1, 1)]),
-        check("253, 254, 255", color_calls(&[253, 254, 255], &[]), vec![(8, 253), (2, 0), (5, 0), (0, 0)]),
+        check(
+            "16, 80, 235",
+            color_calls(&[16, 80, 235], &[]),
+            vec![(8, 16), (2, 3), (8, 63), (8, 154)],
+        ),
+        check(
+            "250, 253, 255",
+            color_calls(&[250, 253, 255], &[]),
+            vec![(8, 250), (2, 0), (5, 2), (1, 1)],
+        ),
+        check(
+            "253, 254, 255",
+            color_calls(&[253, 254, 255], &[]),
+            vec![(8, 253), (2, 0), (5, 0), (0, 0)],
+        ),
         check("254, 255: bits listed", bits(&[254, 255]), 15),
         check("0, 255: bits listed", bits(&[0, 255]), 18),
         // The head has the literals' bits too; orientation and first cell add one bit each.
-        check("254, 255: estimate", estimate(&halves(254.0, 255.0)), (15.0 + 1.0 + 1.0) * 3.0),
-        check("0, 255: estimate", estimate(&halves(0.0, 255.0)), (18.0 + 1.0 + 1.0) * 3.0),
+        check(
+            "254, 255: estimate",
+            estimate(&halves(254.0, 255.0)),
+            (15.0 + 1.0 + 1.0) * 3.0,
+        ),
+        check(
+            "0, 255: estimate",
+            estimate(&halves(0.0, 255.0)),
+            (18.0 + 1.0 + 1.0) * 3.0,
+        ),
     ]
 }
 
@@ -112,15 +148,29 @@ fn found(samples: &[f32], w: usize, h: usize, lambda: f32) -> Found {
 fn uniform_width(n: usize, first: usize) -> f32 {
     let samples: Vec<f32> = (0..16).map(|at| (10 * ((at + first) % n)) as f32).collect();
     let Found { palette, bits } = found(&samples, 16, 1, 0.0);
-    assert_eq!((palette.colors.len(), usize::from(palette.map[0])), (n, first));
-    let literals = color_calls(&palette.colors, &[]).iter().map(|call| call.0).sum::<u32>();
+    assert_eq!(
+        (palette.colors.len(), usize::from(palette.map[0])),
+        (n, first)
+    );
+    let literals = color_calls(&palette.colors, &[])
+        .iter()
+        .map(|call| call.0)
+        .sum::<u32>();
     bits / 3.0 - literals as f32 - 1.0
 }
 
 fn uniform_checks() -> Vec<Check> {
-    let widths = |n| (0..n).map(|first| uniform_width(n, first)).collect::<Vec<f32>>();
+    let widths = |n| {
+        (0..n)
+            .map(|first| uniform_width(n, first))
+            .collect::<Vec<f32>>()
+    };
     vec![
-        check("uniform widths, n = 5", widths(5), vec![2.0, 2.0, 2.0, 3.0, 3.0]),
+        check(
+            "uniform widths, n = 5",
+            widths(5),
+            vec![2.0, 2.0, 2.0, 3.0, 3.0],
+        ),
         check("uniform widths, n = 3", widths(3), vec![1.0, 2.0, 2.0]),
     ]
 }
@@ -148,7 +198,11 @@ fn search_checks() -> Vec<Check> {
     let tens = found(&halves(10.0, 20.0), 16, 1, 0.0);
     let map = [[0u8; 8], [1; 8]].concat();
     vec![
-        check("16 by 1, 10s and 20s", summary(&tens), (vec![10, 20], "plain", vec![0], 51.0)),
+        check(
+            "16 by 1, 10s and 20s",
+            summary(&tens),
+            (vec![10, 20], "plain", vec![0], 51.0),
+        ),
         check("16 by 1, 10s and 20s: map", tens.palette.map, map),
         check("10.0 and 10.4 only", number(&halves(10.0, 10.4), 16, 1), 9),
         check("32 levels", number(&cycle(32, 256), 16, 16), 0),
@@ -208,11 +262,31 @@ fn listing_checks() -> Vec<Check> {
 fn wrong_way_checks() -> Vec<Check> {
     let tens = found(&halves(10.0, 20.0), 16, 1, 0.0);
     vec![
-        check("15 between 20s ties and takes the left colour", tied_index(), 1),
-        check("250, 253 uses 5 bits", color_calls(&[250, 253], &[])[2], (5, 2)),
-        check("10.4, 11, 11.6: bound by levels keeps n = 4", bound_by_levels(), 4),
-        check("a repeated entry gets no second 1", color_calls(&[10, 20], &[20, 20])[1], (1, 0)),
-        check("estimate 51, raw width 17", raw_width(&list(&tens.palette, &[])), 17),
+        check(
+            "15 between 20s ties and takes the left colour",
+            tied_index(),
+            1,
+        ),
+        check(
+            "250, 253 uses 5 bits",
+            color_calls(&[250, 253], &[])[2],
+            (5, 2),
+        ),
+        check(
+            "10.4, 11, 11.6: bound by levels keeps n = 4",
+            bound_by_levels(),
+            4,
+        ),
+        check(
+            "a repeated entry gets no second 1",
+            color_calls(&[10, 20], &[20, 20])[1],
+            (1, 0),
+        ),
+        check(
+            "estimate 51, raw width 17",
+            raw_width(&list(&tens.palette, &[])),
+            17,
+        ),
     ]
 }
 
@@ -239,7 +313,11 @@ fn reading_checks() -> Vec<Check> {
     let stop = [vec![10.25; 3], vec![13.5; 6], vec![11.5; 7]].concat();
     let stopped = found(&stop, 16, 1, 0.375);
     vec![
-        check("1, fourteen 2s, 3: ties are of f64", found(&ties, 16, 1, 1.0).palette.colors, vec![2, 3]),
+        check(
+            "1, fourteen 2s, 3: ties are of f64",
+            found(&ties, 16, 1, 1.0).palette.colors,
+            vec![2, 3],
+        ),
         check(
             "10.25 x3, 13.5 x6, 11.5 x7: stop at the bound",
             (stopped.palette.colors.len(), stopped.bits),

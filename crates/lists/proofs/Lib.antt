@@ -1,3 +1,4 @@
+pub mod Ascending
 pub mod Choice
 pub mod Counted
 pub mod Rest

@@ -6,7 +6,8 @@ use palette_oracle::worked;
 use std::io::{self, BufRead, BufWriter, Write};
 use std::process::ExitCode;
 
-const USAGE: &str = "usage: oracle answer | blocks SEED COUNT | lists SEED COUNT | contexts SEED COUNT | worked";
+const USAGE: &str =
+    "usage: oracle answer | blocks SEED COUNT | lists SEED COUNT | contexts SEED COUNT | worked";
 
 fn main() -> ExitCode {
     let arguments: Vec<String> = std::env::args().skip(1).collect();

@@ -67,12 +67,22 @@ pub fn block_of(random: &mut Random, kinds: BlockKinds, w: usize, h: usize) -> B
     let samples = samples(random, kinds, w, h, top(bd));
     let lambda = lambda(random, kinds.lambda);
     let costs = costs(random, kinds.costs, bd);
-    Block { w, h, bd, lambda, costs, samples }
+    Block {
+        w,
+        h,
+        bd,
+        lambda,
+        costs,
+        samples,
+    }
 }
 
 fn samples(random: &mut Random, kinds: BlockKinds, w: usize, h: usize, top: u32) -> Vec<f32> {
     let mut levels = levels(random, kinds.spacing, kinds.count, top);
-    if matches!(kinds.fraction, Fraction::MinusZero | Fraction::UnderHalf | Fraction::Edges) {
+    if matches!(
+        kinds.fraction,
+        Fraction::MinusZero | Fraction::UnderHalf | Fraction::Edges
+    ) {
         // Negative zero and 0.49999997 are samples of level 0.
         levels[0] = 0;
     }
@@ -80,5 +90,8 @@ fn samples(random: &mut Random, kinds: BlockKinds, w: usize, h: usize, top: u32)
     if !random.one_in(4) {
         place_all(random, &mut numbers, kinds.count);
     }
-    numbers.iter().map(|&number| sample(random, kinds.fraction, levels[number], top)).collect()
+    numbers
+        .iter()
+        .map(|&number| sample(random, kinds.fraction, levels[number], top))
+        .collect()
 }

@@ -15,10 +15,23 @@ kinds! {
 
 pub fn corner(seed: u64, index: u64) -> (Corner, CornerKind) {
     let random = &mut Random::new(seed, index);
-    let kind = random.pick(&[CornerKind::TopRow, CornerKind::LeftColumn, CornerKind::Inner, CornerKind::Inner, CornerKind::Inner, CornerKind::HugeStride]);
+    let kind = random.pick(&[
+        CornerKind::TopRow,
+        CornerKind::LeftColumn,
+        CornerKind::Inner,
+        CornerKind::Inner,
+        CornerKind::Inner,
+        CornerKind::HugeStride,
+    ]);
     let n = random.between(2, 8);
     let (stride, y, x) = cell(random, kind);
-    let mut corner = Corner { map: vec![], stride, y, x, n };
+    let mut corner = Corner {
+        map: vec![],
+        stride,
+        y,
+        x,
+        n,
+    };
     corner.map = map(random, &corner);
     (corner, kind)
 }
@@ -41,13 +54,26 @@ fn cell(random: &mut Random, kind: CornerKind) -> (usize, usize, usize) {
 /// A map that reaches the last used neighbour, and half of the time ends there. Cells that the
 /// context does not use hold anything, also what is no index.
 fn map(random: &mut Random, corner: &Corner) -> Vec<u8> {
-    let used: Vec<usize> = neighbours(corner).iter().map(|&place| place as usize).collect();
+    let used: Vec<usize> = neighbours(corner)
+        .iter()
+        .map(|&place| place as usize)
+        .collect();
     let last = used.iter().max().expect("no cell at (0,0)");
-    let beyond = if random.one_in(2) { 0 } else { random.between(1, 70) };
-    let mut map: Vec<u8> = (0..last + 1 + beyond).map(|_| random.bits() as u8).collect();
+    let beyond = if random.one_in(2) {
+        0
+    } else {
+        random.between(1, 70)
+    };
+    let mut map: Vec<u8> = (0..last + 1 + beyond)
+        .map(|_| random.bits() as u8)
+        .collect();
     let few = [random.below(corner.n), random.below(corner.n)];
     for place in used {
-        let index = if random.one_in(3) { random.below(corner.n) } else { random.pick(&few) };
+        let index = if random.one_in(3) {
+            random.below(corner.n)
+        } else {
+            random.pick(&few)
+        };
         map[place] = index as u8;
     }
     map

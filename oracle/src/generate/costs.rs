@@ -52,7 +52,10 @@ pub fn costs(random: &mut Random, kind: CostKind, bd: u32) -> Box<Costs> {
 
 fn filled(mut cost: impl FnMut(usize) -> f32) -> Box<Costs> {
     let mut costs = Box::new([0.0; COSTS]);
-    costs.iter_mut().enumerate().for_each(|(place, entry)| *entry = cost(place));
+    costs
+        .iter_mut()
+        .enumerate()
+        .for_each(|(place, entry)| *entry = cost(place));
     costs
 }
 
@@ -76,8 +79,14 @@ fn logarithms() -> Box<Costs> {
             return 0.0;
         }
         let above = if symbol == 0 { 32768 } else { icdf[symbol - 1] };
-        let below = if symbol + 1 < symbols { icdf[symbol] } else { 0 };
-        -(f32::from((above - below).max(1)) / 32768.0).log2().min(0.0)
+        let below = if symbol + 1 < symbols {
+            icdf[symbol]
+        } else {
+            0
+        };
+        -(f32::from((above - below).max(1)) / 32768.0)
+            .log2()
+            .min(0.0)
     })
 }
 

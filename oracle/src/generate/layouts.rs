@@ -28,7 +28,9 @@ pub fn layout(random: &mut Random, kind: Layout, w: usize, h: usize, count: usiz
         Layout::RepeatedRows => repeated_rows(random, w, h, count),
         Layout::RepeatedColumns => turned(&repeated_rows(random, h, w, count), w, h),
         Layout::Boxes => boxes(random, w, h, count),
-        Layout::Ramp => (0..cells).map(|at| (at / w + at % w) * count / (w + h)).collect(),
+        Layout::Ramp => (0..cells)
+            .map(|at| (at / w + at % w) * count / (w + h))
+            .collect(),
         Layout::Checker => (0..cells).map(|at| (at / w + at % w) % count).collect(),
         Layout::EqualCounts => {
             let mut numbers: Vec<usize> = (0..cells).map(|at| at % count).collect();
@@ -41,7 +43,9 @@ pub fn layout(random: &mut Random, kind: Layout, w: usize, h: usize, count: usiz
 }
 
 fn rows(random: &mut Random, w: usize, h: usize, count: usize) -> Vec<usize> {
-    (0..h).flat_map(|_| std::iter::repeat_n(random.below(count), w)).collect()
+    (0..h)
+        .flat_map(|_| std::iter::repeat_n(random.below(count), w))
+        .collect()
 }
 
 fn repeated_rows(random: &mut Random, w: usize, h: usize, count: usize) -> Vec<usize> {
@@ -59,7 +63,9 @@ fn repeated_rows(random: &mut Random, w: usize, h: usize, count: usize) -> Vec<u
 
 /// From columns of a block to its rows.
 fn turned(columns: &[usize], w: usize, h: usize) -> Vec<usize> {
-    (0..w * h).map(|at| columns[(at % w) * h + at / w]).collect()
+    (0..w * h)
+        .map(|at| columns[(at % w) * h + at / w])
+        .collect()
 }
 
 fn boxes(random: &mut Random, w: usize, h: usize, count: usize) -> Vec<usize> {

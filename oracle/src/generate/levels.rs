@@ -108,7 +108,12 @@ pub fn sample(random: &mut Random, fraction: Fraction, level: u32, top: u32) -> 
         Fraction::Half => whole - 0.5,
         Fraction::UnderHalf => under_half(whole),
         Fraction::Edges => {
-            let kind = random.pick(&[Fraction::Whole, Fraction::MinusZero, Fraction::Half, Fraction::UnderHalf]);
+            let kind = random.pick(&[
+                Fraction::Whole,
+                Fraction::MinusZero,
+                Fraction::Half,
+                Fraction::UnderHalf,
+            ]);
             return sample(random, kind, level, top);
         }
         Fraction::Eighths => whole + random.between(0, 7) as f32 / 8.0 - 0.5,

@@ -33,7 +33,12 @@ pub type PaletteKinds = Option<(Spacing, FlagKind, CellKind)>;
 
 pub fn names(kinds: PaletteKinds) -> String {
     kinds.map_or("found".to_string(), |(spacing, flags, cells)| {
-        format!("spacing={} flags={} cells={}", spacing.name(), flags.name(), cells.name())
+        format!(
+            "spacing={} flags={} cells={}",
+            spacing.name(),
+            flags.name(),
+            cells.name()
+        )
     })
 }
 
@@ -45,7 +50,11 @@ pub fn palette(seed: u64, index: u64) -> (Palette, PaletteKinds) {
             return (palette, None);
         }
     }
-    let kinds = (random.pick(Spacing::ALL), random.pick(FlagKind::ALL), random.pick(CellKind::ALL));
+    let kinds = (
+        random.pick(Spacing::ALL),
+        random.pick(FlagKind::ALL),
+        random.pick(CellKind::ALL),
+    );
     (made(random, kinds), Some(kinds))
 }
 
@@ -58,9 +67,20 @@ fn made(random: &mut Random, (spacing, flags, cells): (Spacing, FlagKind, CellKi
     let (w, h) = sides(random);
     let bd = depth(random);
     let n = random.between(2, 8);
-    let colors = levels(random, spacing, n, top(bd)).iter().map(|&color| color as u16).collect();
+    let colors = levels(random, spacing, n, top(bd))
+        .iter()
+        .map(|&color| color as u16)
+        .collect();
     let transposed = w < 64 && h < 64 && random.one_in(2);
-    let mut palette = Palette { w, h, bd, colors, transposed, flags: vec![], map: vec![0; w * h] };
+    let mut palette = Palette {
+        w,
+        h,
+        bd,
+        colors,
+        transposed,
+        flags: vec![],
+        map: vec![0; w * h],
+    };
     fill_lines(random, &mut palette, flags, cells);
     palette
 }
@@ -72,7 +92,11 @@ fn fill_lines(random: &mut Random, palette: &mut Palette, flags: FlagKind, cells
     for number in 0..count {
         let flag = draw_flag(random, flags, number == 0);
         // A disguised line could have had a cheaper flag.
-        let content = if flags == FlagKind::Disguised { random.between(0, 2) as u8 } else { flag };
+        let content = if flags == FlagKind::Disguised {
+            random.between(0, 2) as u8
+        } else {
+            flag
+        };
         let line = match flag.max(content) {
             0 => coded_line(random, cells, &before, n),
             1 => vec![random.below(n) as u8; len],
@@ -116,7 +140,11 @@ fn coded_line(random: &mut Random, kind: CellKind, before: &[u8], n: usize) -> V
 }
 
 fn put_line(palette: &mut Palette, number: usize, line: &[u8]) {
-    let (start, step) = if palette.transposed { (number, palette.w) } else { (number * palette.w, 1) };
+    let (start, step) = if palette.transposed {
+        (number, palette.w)
+    } else {
+        (number * palette.w, 1)
+    };
     for (at, &index) in line.iter().enumerate() {
         palette.map[start + at * step] = index;
     }

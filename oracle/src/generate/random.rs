@@ -9,7 +9,9 @@ pub struct Random {
 impl Random {
     /// Each case has its own stream.
     pub fn new(seed: u64, index: u64) -> Self {
-        Random { state: mix(seed.wrapping_add(STEP)) ^ mix(index.wrapping_mul(STEP)) }
+        Random {
+            state: mix(seed.wrapping_add(STEP)) ^ mix(index.wrapping_mul(STEP)),
+        }
     }
 
     pub fn bits(&mut self) -> u64 {

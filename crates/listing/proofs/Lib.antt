@@ -1,0 +1,4 @@
+pub mod Pending
+pub mod Splits
+pub mod Colors
+pub mod Map

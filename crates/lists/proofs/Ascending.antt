@@ -1,0 +1,46 @@
+-- Strictly ascending lists: from the test to the facts, and what may be left out. Assumes nothing.
+use mathlib.Core.Path.{_≡_, refl}
+use mathlib.Core.Bool.{Bool, true, false, _&&_, _||_, false≢true}
+use mathlib.Core.List.{List, [], _∷_}
+use Prim.Native.Nat.{ℕ, _<_}
+use native.Mathlib.Omega.{arith}
+use lib.Dec.{eqb, ltb}
+use borrow.Author.Tests.{eqb-true, ltb-true}
+use Rattle.lists.specs.Counted.{elem, above, ascending}
+use Rattle.lists.proofs.Choice.{and-l, and-r}
+
+-- what `above` and `ascending` test
+abbrev pub Above : ℕ → List ℕ → Type 0
+Above c [] = Unit {0}
+Above c (d ∷ ds) = (c < d) × Above d ds
+
+abbrev pub Ascending : List ℕ → Type 0
+Ascending [] = Unit {0}
+Ascending (c ∷ cs) = Above c cs
+
+above-is : (c : ℕ) (ds : List ℕ) → above c ds ≡ true → Above c ds
+unfolding above
+above-is c [] e = tt
+above-is c (d ∷ ds) e = (ltb-true c d (and-l (ltb c d) (above d ds) e), above-is d ds (and-r (ltb c d) (above d ds) e))
+
+pub ascending-is : (cs : List ℕ) → ascending cs ≡ true → Ascending cs
+unfolding ascending
+ascending-is [] e = tt
+ascending-is (c ∷ cs) e = above-is c cs e
+
+pub above-lower : (b c : ℕ) (ds : List ℕ) → b < c → Above c ds → Above b ds
+above-lower b c [] h a = tt
+above-lower b c (d ∷ ds) h a = (omega arith, a .1)
+
+pub ascending-tail : (c : ℕ) (cs : List ℕ) → Above c cs → Ascending cs
+ascending-tail c [] a = tt
+ascending-tail c (d ∷ ds) a = a .1
+
+pub above-elem : (e c : ℕ) (ds : List ℕ) → Above c ds → elem e ds ≡ true → c < e
+unfolding elem
+above-elem e c [] a t = absurd (false≢true t)
+above-elem e c (d ∷ ds) a t =
+    let deeper : elem e ds ≡ true → d < e = above-elem e d ds (a .1) in
+    let go : (b : Bool) → eqb e d ≡ b → b || elem e ds ≡ true → c < e =
+    elim [ true ↦ λ p u. omega (arith, eqb-true e d p) | false ↦ λ p u. omega (arith, deeper u) ] in
+    go (eqb e d) refl t
