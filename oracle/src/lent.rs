@@ -43,11 +43,14 @@ pub(crate) fn lend(costs: &Costs) {
     });
 }
 
-/// By bits, since 0.0 and -0.0 are two tables.
+/// By bits, since 0.0 and -0.0 are two tables; and without an early end, which is quicker.
 fn same_bits(one: &Costs, other: &Costs) -> bool {
+    let differing = |(a, b): (&f32, &f32)| a.to_bits() ^ b.to_bits();
     one.iter()
         .zip(other)
-        .all(|(a, b)| a.to_bits() == b.to_bits())
+        .map(differing)
+        .fold(0, |all, bits| all | bits)
+        == 0
 }
 
 /// The next cost in the table's order. The original does not say which place it asks for; the

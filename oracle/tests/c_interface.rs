@@ -2,51 +2,66 @@
 
 use palette_oracle::check::none_number;
 use palette_oracle::generate::{blocks::block, caches::cache, contexts::corner, palettes::palette};
-use palette_oracle::{block_allowed, context, list, pred, search, Palette};
+use palette_oracle::{block_allowed, context, list, pred, search, Block, Found};
 use palette_oracle::{rs_block_allowed, rs_context, rs_list, rs_pred, rs_search};
 
 const UNTOUCHED: u8 = 0xee;
+
+/// What `rs_search` writes, into buffers longer than any block needs.
+struct Written {
+    number: u32,
+    fields: [u32; 10],
+    bits: f32,
+    map: Vec<u8>,
+    flags: Vec<u8>,
+}
+
+fn searched(b: &Block) -> Written {
+    let (mut map, mut flags) = (vec![UNTOUCHED; 4096 + 1], vec![UNTOUCHED; 64 + 1]);
+    let (mut fields, mut bits) = ([99u32; 10], 99f32);
+    let number = unsafe {
+        let (samples, costs) = (b.samples.as_ptr(), b.costs.as_ptr());
+        let (map, flags) = (map.as_mut_ptr(), flags.as_mut_ptr());
+        let fields = fields.as_mut_ptr();
+        rs_search(
+            samples, b.w, b.h, b.bd, b.lambda, costs, map, flags, fields, &mut bits,
+        )
+    };
+    Written {
+        number,
+        fields,
+        bits,
+        map,
+        flags,
+    }
+}
+
+fn holds_only(buffer: &[u8], front: &[u8]) -> bool {
+    buffer.starts_with(front) && buffer[front.len()..].iter().all(|&cell| cell == UNTOUCHED)
+}
 
 #[test]
 fn search_writes_what_is_found() {
     for index in 0..1000 {
         let (b, _) = block(4, index);
-        let (mut map, mut flags) = (vec![UNTOUCHED; 4096 + 1], vec![UNTOUCHED; 64 + 1]);
-        let (mut fields, mut bits) = ([99u32; 10], 99f32);
-        let number = unsafe {
-            let (samples, costs) = (b.samples.as_ptr(), b.costs.as_ptr());
-            let (map, flags) = (map.as_mut_ptr(), flags.as_mut_ptr());
-            let fields = fields.as_mut_ptr();
-            rs_search(
-                samples, b.w, b.h, b.bd, b.lambda, costs, map, flags, fields, &mut bits,
-            )
-        };
-        assert_eq!(number, none_number(&b.samples, b.w, b.h));
-        let found = search(&b.samples, b.w, b.h, b.bd, b.lambda, &b.costs);
-        let empty = Palette {
-            w: 0,
-            h: 0,
-            bd: 0,
-            colors: vec![],
-            transposed: false,
-            flags: vec![],
-            map: vec![],
-        };
-        let (p, estimate) = found.map_or((empty, 0.0), |f| (f.palette, f.bits));
-        assert_eq!(bits.to_bits(), estimate.to_bits());
-        assert_eq!(
-            (fields[0] as usize, fields[9] != 0),
-            (p.colors.len(), p.transposed)
-        );
-        let colors = p.colors.iter().map(|&color| u32::from(color));
-        assert!(colors
-            .chain(std::iter::repeat(0))
-            .take(8)
-            .eq(fields[1..9].iter().copied()));
-        assert_eq!(map[..p.map.len()], p.map);
-        assert_eq!(flags[..p.flags.len()], p.flags);
-        let rest = map[p.map.len()..].iter().chain(&flags[p.flags.len()..]);
-        assert!(rest.into_iter().all(|&cell| cell == UNTOUCHED));
+        let written = searched(&b);
+        assert_eq!(written.number, none_number(&b.samples, b.w, b.h));
+        match search(&b.samples, b.w, b.h, b.bd, b.lambda, &b.costs) {
+            Some(Found { palette: p, bits }) => {
+                let colors = eight(&p.colors).map(u32::from);
+                let (n, orientation) = (p.colors.len() as u32, u32::from(p.transposed));
+                assert_eq!(
+                    written.fields[..],
+                    [&[n], &colors[..], &[orientation]].concat()
+                );
+                assert_eq!(written.bits.to_bits(), bits.to_bits());
+                assert!(holds_only(&written.map, &p.map) && holds_only(&written.flags, &p.flags));
+            }
+            None => {
+                assert_eq!((written.fields, written.bits.to_bits()), ([0; 10], 0));
+                assert!(holds_only(&written.map, &[]) && holds_only(&written.flags, &[]));
+            }
+        }
     }
 }
 

@@ -180,19 +180,35 @@ fn palettes_are_accepted_and_of_every_kind() {
     }
 }
 
+/// Flag, cells and cells before of every line but the first, where lines have two cells or more.
+fn later_lines() -> Vec<(u8, Vec<u8>, Vec<u8>)> {
+    let of = |p: Palette| {
+        let later = if p.w.min(p.h) > 1 {
+            1..p.flags.len()
+        } else {
+            0..0
+        };
+        later.map(move |l| (p.flags[l], line(&p, l), line(&p, l - 1)))
+    };
+    listed().take(500).flat_map(|(p, _)| of(p)).collect()
+}
+
 #[test]
 fn lines_carry_flags_they_need_not_carry() {
-    let any_line = |holds: &dyn Fn(u8, &[u8], &[u8]) -> bool| {
-        listed().any(|(p, _)| {
-            let mut numbers = 1..p.flags.len();
-            p.w.min(p.h) > 1 && numbers.any(|l| holds(p.flags[l], &line(&p, l), &line(&p, l - 1)))
-        })
-    };
+    let lines = later_lines();
     let constant = |cells: &[u8]| cells.iter().all(|&index| index == cells[0]);
-    assert!(any_line(&|flag, now, _| flag == 0 && constant(now)));
-    assert!(any_line(&|flag, now, before| flag == 0 && now == before));
-    assert!(any_line(&|flag, now, before| flag == 1 && now == before));
-    assert!(any_line(&|flag, now, _| flag == 2 && !constant(now)));
+    assert!(lines
+        .iter()
+        .any(|(flag, now, _)| *flag == 0 && constant(now)));
+    assert!(lines
+        .iter()
+        .any(|(flag, now, before)| *flag == 0 && now == before));
+    assert!(lines
+        .iter()
+        .any(|(flag, now, before)| *flag == 1 && now == before));
+    assert!(lines
+        .iter()
+        .any(|(flag, now, _)| *flag == 2 && !constant(now)));
     assert!(listed().any(|(p, _)| p.transposed && p.flags.contains(&2)));
 }
 

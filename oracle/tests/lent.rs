@@ -3,12 +3,11 @@
 use palette_oracle::generate::blocks::{block, block_of, BlockKinds};
 use palette_oracle::generate::costs::CostKind;
 use palette_oracle::generate::random::Random;
-use palette_oracle::{list, search, unpack, Block, Found};
+use palette_oracle::{list, search, unpack, Block, Found, Palette};
 
-fn answer(b: &Block) -> Option<(u32, Vec<u16>, Vec<u8>, Vec<u8>)> {
+fn answer(b: &Block) -> Option<(u32, Palette)> {
     let found = search(&b.samples, b.w, b.h, b.bd, b.lambda, &b.costs)?;
-    let p = found.palette;
-    Some((found.bits.to_bits(), p.colors, p.flags, p.map))
+    Some((found.bits.to_bits(), found.palette))
 }
 
 #[test]
@@ -22,18 +21,6 @@ fn a_table_lent_between_others_changes_nothing() {
     let again: Vec<_> = blocks.iter().rev().map(answer).collect();
     assert_eq!(alone, together);
     assert!(alone.iter().eq(again.iter().rev()));
-}
-
-#[test]
-fn zero_and_minus_zero_are_two_tables() {
-    let (mut b, _) = (0..)
-        .map(|i| block(2, i))
-        .find(|(b, _)| answer(b).is_some())
-        .unwrap();
-    b.costs.fill(0.0);
-    let zero = answer(&b);
-    b.costs.fill(-0.0);
-    assert_eq!(zero, answer(&b));
 }
 
 /// The cost of a call by document 01's layout: mode 2, size 7, row 12, colour 280.
@@ -84,11 +71,11 @@ fn the_estimate_prices_the_list() {
             mark(&mut met, &list(&found.palette, &[]));
         }
     }
-    // Rank r under n colours: all are met, apart from what no map can send.
+    // What no map can send: a copy as first line, and two colours among three that all differ.
     let unmet: Vec<usize> = (2..301)
         .filter(|&place| used(place) && !met[place])
         .collect();
-    assert_eq!(unmet, [9 + 3 * 3 + 2]);
+    assert_eq!(unmet, [9 + 3 * 3 + 2, 21 + 8, 21 + 8 + 1]);
 }
 
 fn mark(met: &mut [bool; 301], words: &[u32]) {

@@ -106,14 +106,16 @@ fn runs(random: &mut Random, cells: usize, count: usize) -> Vec<usize> {
 pub fn place_all(random: &mut Random, numbers: &mut [usize], count: usize) {
     let mut places = vec![0usize; count];
     numbers.iter().for_each(|&number| places[number] += 1);
-    for missing in 0..count.min(numbers.len()) {
-        while places[missing] == 0 {
-            let at = random.below(numbers.len());
-            if places[numbers[at]] > 1 {
-                places[numbers[at]] -= 1;
-                numbers[at] = missing;
-                places[missing] = 1;
-            }
+    let mut missing: Vec<usize> = (0..count).filter(|&number| places[number] == 0).collect();
+    let mut cells: Vec<usize> = (0..numbers.len()).collect();
+    random.shuffle(&mut cells);
+    // One pass is enough: a number that stands once keeps its cell.
+    for cell in cells {
+        if places[numbers[cell]] > 1 {
+            let Some(number) = missing.pop() else { return };
+            places[numbers[cell]] -= 1;
+            numbers[cell] = number;
+            places[number] = 1;
         }
     }
 }
