@@ -1,0 +1,10 @@
+pub mod Fractions
+pub mod Exact
+pub mod Tests
+pub mod Numbers
+pub mod Signs
+pub mod Scaling
+pub mod Growth
+pub mod Bounds
+pub mod Truncation
+pub mod HalfEven

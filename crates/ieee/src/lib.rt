@@ -1,0 +1,1 @@
+// Floats: definitions in specs/, laws in proofs/. There is no code.
