@@ -5,9 +5,9 @@ use mathlib.Core.List.{List, [], _∷_}
 use Prim.Native.Nat.{ℕ, _<_}
 use native.Mathlib.Omega.{arith}
 use lib.Dec.{eqb, ltb}
-use borrow.Author.Tests.{eqb-true, ltb-true}
+use borrow.Author.Tests.{eqb-true, ltb-true, lt-ltb}
 use Rattle.lists.specs.Counted.{elem, above, ascending}
-use Rattle.lists.proofs.Choice.{and-l, and-r}
+use Rattle.lists.proofs.Choice.{and-l, and-r, and-both}
 
 -- what `above` and `ascending` test
 abbrev pub Above : ℕ → List ℕ → Type 0
@@ -27,6 +27,16 @@ pub ascending-is : (cs : List ℕ) → ascending cs ≡ true → Ascending cs
 unfolding ascending
 ascending-is [] e = tt
 ascending-is (c ∷ cs) e = above-is c cs e
+
+is-above : (c : ℕ) (ds : List ℕ) → Above c ds → above c ds ≡ true
+unfolding above
+is-above c [] a = refl
+is-above c (d ∷ ds) a = and-both (ltb c d) (above d ds) (lt-ltb c d (a .0)) (is-above d ds (a .1))
+
+pub is-ascending : (cs : List ℕ) → Ascending cs → ascending cs ≡ true
+unfolding ascending
+is-ascending [] a = refl
+is-ascending (c ∷ cs) a = is-above c cs a
 
 pub above-lower : (b c : ℕ) (ds : List ℕ) → b < c → Above c ds → Above b ds
 above-lower b c [] h a = tt

@@ -3,8 +3,9 @@ use mathlib.Core.Path.{_≡_, refl}
 use mathlib.Core.Bool.{Bool, true, false, _&&_, true≢false, false≢true}
 use mathlib.Core.List.{List, [], _∷_, _++_}
 use mathlib.Core.Logic.{⊎-elim}
-use Prim.Native.Nat.{ℕ, zero, suc, _<_, _≤_}
+use Prim.Native.Nat.{ℕ, zero, suc, _+_, _<_, _≤_}
 use native.Mathlib.Nat.{eq-or-lt-of-le, le-of-suc-le-suc}
+use native.Mathlib.Numerals.{add-one}
 use native.Mathlib.Omega.{arith}
 use lib.ListN.{length, getD, length-append}
 use Rattle.lists.specs.Counted.{upTo, allBelow, allIn, bit}
@@ -47,3 +48,16 @@ pub length-upTo : (g : ℕ → ℕ) (n : ℕ) → length (upTo (λ i. g i ∷ []
 unfolding upTo
 length-upTo g zero = refl
 length-upTo g (suc n) = omega (arith, length-append (upTo (λ i. g i ∷ []) n) (g n ∷ []), length-upTo g n)
+
+pub length-more : (f : ℕ → List ℕ) (n : ℕ) → length (upTo f (n + 1)) ≡ length (upTo f n) + length (f n)
+unfolding upTo
+length-more f n = rw add-one (length-append (upTo f n) (f n))
+
+pub upTo-longer : (f : ℕ → List ℕ) (m n : ℕ) → m ≤ n → length (upTo f m) ≤ length (upTo f n)
+unfolding upTo
+upTo-longer f m zero h = let e : m ≡ 0 = omega arith in rw e (omega arith)
+upTo-longer f m (suc n) h =
+    let deeper : m ≤ n → length (upTo f m) ≤ length (upTo f n) = upTo-longer f m n in
+    ⊎-elim (λ e. rw e (omega arith))
+    (λ l. omega (arith, deeper (le-of-suc-le-suc l), length-append (upTo f n) (f n)))
+    (eq-or-lt-of-le h)

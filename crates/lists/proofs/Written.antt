@@ -8,7 +8,9 @@ use native.Mathlib.Numerals.{add-one}
 use native.Mathlib.Omega.{arith}
 use lib.ListN.{length, drop, set, length-set}
 use lib.Seq.{sets, sets-eq}
+use Rattle.lists.specs.Counted.{upTo}
 use Rattle.lists.specs.Written.{written, front}
+use Rattle.lists.proofs.Counted.{length-upTo}
 
 pub length-written : (l : List ℕ) (at : ℕ) (ws : List ℕ) → length (written l at ws) ≡ length l
 unfolding written
@@ -22,6 +24,16 @@ written-append l at [] ys = rw add-zero refl
 written-append l at (x ∷ xs) ys =
     let e : at + suc (length xs) ≡ at + 1 + length xs = omega arith in
     rw e (written-append (set l at x) (at + 1) xs ys)
+
+-- one more piece of a counted list; and where each piece is one word
+pub written-more : (f : ℕ → List ℕ) (l : List ℕ) (at n : ℕ)
+    → written (written l at (upTo f n)) (at + length (upTo f n)) (f n) ≡ written l at (upTo f (n + 1))
+unfolding upTo
+written-more f l at n = rw add-one (written-append l at (upTo f n) (f n))
+
+pub written-next : (g : ℕ → ℕ) (l : List ℕ) (at n : ℕ)
+    → written (written l at (upTo (λ i. g i ∷ []) n)) (at + n) (g n ∷ []) ≡ written l at (upTo (λ i. g i ∷ []) (n + 1))
+written-next g l at n = rw (length-upTo g n) at (written-more (λ i. g i ∷ []) l at n)
 
 as-sets : (l : List ℕ) (at : ℕ) (ws : List ℕ) → written l at ws ≡ sets l at ws
 unfolding written

@@ -1,0 +1,15 @@
+use borrow.Author.Needs.{needs}
+use Rattle.samples.proofs.samples_ok.Statement.{statement}
+use Rattle.samples.proofs.samples_ok.Tie as tie
+
+top-level-requires : tie.Need-top-level-requires
+top-level-requires c κs = search needs
+
+all-in-range-requires : tie.Need-all-in-range-requires
+all-in-range-requires c κs = search needs
+
+returns : tie.Need-returns
+returns c = rw (← c .before .top-level .ensures) (c .all-in-range .ensures)
+
+pub samples-ok-spec : {M : Type 1} → statement M
+samples-ok-spec = tie.close (tie.spec top-level-requires all-in-range-requires returns)
