@@ -1,3 +1,4 @@
 pub mod Map
 pub mod Order
 pub mod Context
+pub mod Parts

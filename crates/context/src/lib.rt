@@ -1,4 +1,15 @@
-// The context of a cell of an index map, and the order of the indices there.
+// The context of a cell of an index map, and the order of the indices there. `color_ctx` answers for all arguments; the
+// other functions may have a `requires`.
+ghost use mathlib.Core.Path.{_≡_};
+ghost use mathlib.Core.Bool.{not};
+ghost use mathlib.Core.List.{_∷_, []};
+ghost use Prim.Native.Nat.{_+_, _*_, _≤_, _<_, min};
+ghost use lib.ListN.{take, replicate};
+ghost use Rattle.lists.specs.Counted.{elem};
+ghost use Rattle.context.specs.Map.{linesOf, lengthOf};
+ghost use Rattle.context.specs.Order.{byThree, place};
+ghost use Rattle.context.specs.Context.{answered, refused, contextOf};
+ghost use Rattle.context.specs.Parts.{held, neighbourAt, oneAt, threeAt};
 
 // An index: the place of a colour in the palette, as the map holds it.
 pub struct Index(pub u8);
@@ -14,4 +25,214 @@ pub struct Context {
     pub number: u32,
     pub ctx: usize,
     pub order: [u8; 8],
+}
+
+// A used neighbour: none where it is past the map's end or not below n.
+enum Neighbour {
+    Color(Index),
+    Nothing,
+}
+
+// A context, and the count neighbours that come first in the order, then zeros.
+struct Near {
+    pub ctx: usize,
+    pub count: usize,
+    pub firsts: [u8; 8],
+}
+
+// How many lines a map has, and how many places a line: rows, or columns when transposed.
+pub fn lines_of(transposed: bool, width: usize, height: usize) -> usize
+    ensures { λ r. ⌜ r ≡ linesOf transposed width height ⌝ }
+{
+    if transposed { width } else { height }
+}
+
+pub fn length_of(transposed: bool, width: usize, height: usize) -> usize
+    ensures { λ r. ⌜ r ≡ lengthOf transposed width height ⌝ }
+{
+    if transposed { height } else { width }
+}
+
+// The place of an index in the first n of an order, or n.
+pub fn rank_of(order: [u8; 8], n: usize, index: Index) -> Rank
+    requires { ⌜ n ≤ 8 ⌝ }
+    ensures { λ r. ⌜ (r .0 ≡ place (index .0) (take n order)) × (r .0 ≤ n) ⌝ }
+{
+    let v = index.0;
+    let mut i: usize = 0;
+    while i < n {
+        if v == order[i] {
+            return Rank(i as u8);
+        }
+        i += 1;
+    }
+    Rank(i as u8)
+}
+
+// Number 18.
+fn refuse() -> Context
+    ensures { λ r. ⌜ r ≡ refused ⌝ }
+{
+    Context {
+        number: 18,
+        ctx: 0,
+        order: [0; 8],
+    }
+}
+
+// y * stride + x, or len where that is past the end. The product may not fit, so rows are compared by division.
+fn place_of(len: usize, stride: usize, y: usize, x: usize) -> usize
+    requires { ⌜ x < stride ⌝ }
+    ensures { λ r. ⌜ r ≡ min (y * stride + x) len ⌝ }
+{
+    if len / stride < y {
+        return len;
+    }
+    let row = y * stride;
+    if x < len - row { row + x } else { len }
+}
+
+// The neighbour at a place of the map.
+fn neighbour_at(map: &[u8], at: usize, n: u8) -> Neighbour
+    ensures { λ r. ⌜ r ≡ neighbourAt (now (map .entry)) n at ⌝ }
+{
+    if at < map.len() {
+        let v = map[at];
+        if v < n {
+            return Neighbour::Color(Index(v));
+        }
+    }
+    Neighbour::Nothing
+}
+
+// At most three neighbours come first.
+fn near_of(ctx: usize, count: usize, a: u8, b: u8, c: u8) -> Near
+    ensures { λ r. ⌜ r ≡ record { ctx = ctx; count = count; firsts = a ∷ b ∷ c ∷ replicate 5 0 } ⌝ }
+{
+    Near {
+        ctx,
+        count,
+        firsts: [a, b, c, 0, 0, 0, 0, 0],
+    }
+}
+
+// Left, top and diagonal: which are equal gives the context.
+fn nearest(left: Index, top: Index, diag: Index) -> Near
+    ensures { λ r. ⌜ r ≡ held (byThree (left .0) (top .0) (diag .0)) ⌝ }
+{
+    let l = left.0;
+    let t = top.0;
+    let d = diag.0;
+    if l == t {
+        if l == d {
+            near_of(4, 1, l, 0, 0)
+        } else {
+            near_of(3, 2, l, d, 0)
+        }
+    } else if l == d {
+        near_of(2, 2, l, t, 0)
+    } else if d == t {
+        near_of(2, 2, t, l, 0)
+    } else {
+        near_of(1, 3, l, t, d)
+    }
+}
+
+// Whether v is no neighbour's index.
+fn is_other(v: Index, left: Index, top: Index, diag: Index) -> bool
+    ensures { λ r. ⌜ r ≡ not (elem (v .0) (left .0 ∷ top .0 ∷ diag .0 ∷ [])) ⌝ }
+{
+    if v.0 == left.0 {
+        return false;
+    }
+    if v.0 == top.0 {
+        return false;
+    }
+    v.0 != diag.0
+}
+
+// The answer for three neighbours: those that come first, then the other indices below n ascending.
+fn answer(left: Index, top: Index, diag: Index, n: u8) -> Context
+    requires { ⌜ (left .0 < n) × (top .0 < n) × (diag .0 < n) × (n ≤ 8) ⌝ }
+    ensures { λ r. ⌜ r ≡ answered (byThree (left .0) (top .0) (diag .0)) n ⌝ }
+{
+    let near = nearest(left, top, diag);
+    let mut order = near.firsts;
+    let mut used = near.count;
+    let mut v: u8 = 0;
+    while v < n {
+        if is_other(Index(v), left, top, diag) {
+            order[used] = v;
+            used += 1;
+        }
+        v += 1;
+    }
+    Context {
+        number: 0,
+        ctx: near.ctx,
+        order,
+    }
+}
+
+// From the neighbours at three places.
+fn from_three(map: &[u8], left: usize, top: usize, diag: usize, n: u8) -> Context
+    requires { ⌜ n ≤ 8 ⌝ }
+    ensures { λ r. ⌜ r ≡ threeAt (now (map .entry)) n left top diag ⌝ }
+{
+    let Neighbour::Color(l) = neighbour_at(map, left, n) else {
+        return refuse();
+    };
+    let Neighbour::Color(t) = neighbour_at(map, top, n) else {
+        return refuse();
+    };
+    let Neighbour::Color(d) = neighbour_at(map, diag, n) else {
+        return refuse();
+    };
+    answer(l, t, d, n)
+}
+
+// One neighbour has the order of three equal ones, and context 0.
+fn from_one(map: &[u8], at: usize, n: u8) -> Context
+    requires { ⌜ n ≤ 8 ⌝ }
+    ensures { λ r. ⌜ r ≡ oneAt (now (map .entry)) n at ⌝ }
+{
+    let three = from_three(map, at, at, at, n);
+    let order = three.order;
+    Context {
+        number: three.number,
+        ctx: 0,
+        order,
+    }
+}
+
+// The context at row y and column x of a map, and the order of the n indices there.
+pub fn color_ctx(map: &[u8], stride: usize, y: usize, x: usize, n: usize) -> Context
+    ensures { λ r. ⌜ r ≡ contextOf (now (map .entry)) stride y x n ⌝ }
+{
+    if n < 2 {
+        return refuse();
+    }
+    if 8 < n {
+        return refuse();
+    }
+    if stride <= x {
+        return refuse();
+    }
+    let m = n as u8;
+    if y == 0 {
+        if x == 0 {
+            return refuse();
+        }
+        return from_one(map, x - 1, m);
+    }
+    if x == 0 {
+        let top = place_of(map.len(), stride, y - 1, 0);
+        return from_one(map, top, m);
+    }
+    let left = place_of(map.len(), stride, y, x - 1);
+    if left == map.len() {
+        return refuse();
+    }
+    // Left is the last of the three, so the others stand in the map too.
+    from_three(map, left, left + 1 - stride, left - stride, m)
 }

@@ -2,14 +2,18 @@
 use mathlib.Core.Path.{_≡_, refl, ap, _∙_}
 use mathlib.Core.Bool.{Bool, true, false, cond, _||_}
 use mathlib.Core.List.{List, [], _∷_}
-use Prim.Native.Nat.{ℕ, suc, _+_, _<_}
+use Prim.Native.Nat.{ℕ, suc, _+_, _-_, _^_, _<_, _≤_}
 use native.Mathlib.Omega.{arith}
-use lib.Dec.{eqb, ltb}
+use lib.Dec.{eqb, ltb, leb}
 use lib.ListN.{length}
-use borrow.Author.Tests.{eqb-true, lt-ltb, le-ltb}
-use Rattle.lists.specs.Counted.{elem, bit}
-use Rattle.lists.proofs.Ascending.{Above, Ascending, above-lower, ascending-tail, above-elem}
-use Rattle.emit.specs.Colors.{remove, untaken}
+use borrow.Author.Tests.{eqb-true, ne-eqb, lt-ltb, le-ltb}
+use Rattle.lists.specs.Counted.{elem, bit, allIn, ascending}
+use Rattle.lists.proofs.Ascending.{Above, Ascending, ascending-is, is-ascending, above-lower, ascending-tail, above-elem}
+use Rattle.lists.proofs.Choice.{and-l, and-r, and-both}
+use Rattle.literals.specs.Words.{bypass}
+use Rattle.literals.specs.Literals.{levelsOk}
+use Rattle.literals.proofs.Levels.{levels-ascend, levels-within, levels-both}
+use Rattle.emit.specs.Colors.{remove, cacheWords, untaken}
 
 above-remove : (e c : ℕ) (ds : List ℕ) → Above c ds → Above c (remove e ds)
 unfolding remove
@@ -29,10 +33,31 @@ ascending-remove e (c ∷ cs) a = go (eqb e c)
     go true = ascending-tail c cs a
     go false = above-remove e c cs a
 
+pub ascends-remove : (e : ℕ) (cs : List ℕ) → ascending cs ≡ true → ascending (remove e cs) ≡ true
+ascends-remove e cs a = is-ascending (remove e cs) (ascending-remove e cs (ascending-is cs a))
+
 pub ascending-untaken : (es cs : List ℕ) → Ascending cs → Ascending (untaken es cs)
 unfolding untaken
 ascending-untaken [] cs a = a
 ascending-untaken (e ∷ es) cs a = ascending-untaken es (remove e cs) (ascending-remove e cs a)
+
+allIn-remove : (f : ℕ → Bool) (e : ℕ) (cs : List ℕ) → allIn f cs ≡ true → allIn f (remove e cs) ≡ true
+unfolding allIn remove
+allIn-remove f e [] t = refl
+allIn-remove f e (c ∷ cs) t =
+    let rest : allIn f cs ≡ true = and-r (f c) (allIn f cs) t in
+    let deeper : allIn f (remove e cs) ≡ true = allIn-remove f e cs rest in
+    let go : (b : Bool) → allIn f (cond b cs (c ∷ remove e cs)) ≡ true =
+    elim [ true ↦ rest | false ↦ and-both (f c) (allIn f (remove e cs)) (and-l (f c) (allIn f cs) t) deeper ] in
+    go (eqb e c)
+
+-- what the cache leaves are colours again
+pub levels-untaken : (bd : ℕ) (es cs : List ℕ) → levelsOk bd cs ≡ true → levelsOk bd (untaken es cs) ≡ true
+unfolding untaken
+levels-untaken bd [] cs a = a
+levels-untaken bd (e ∷ es) cs a =
+    levels-untaken bd es (remove e cs)
+    (levels-both bd (remove e cs) (ascends-remove e cs (levels-ascend bd cs a)) (allIn-remove (λ c. leb c (2 ^ bd - 1)) e cs (levels-within bd cs a)))
 
 pub length-remove : (e : ℕ) (cs : List ℕ) → length (remove e cs) + bit (elem e cs) ≡ length cs
 unfolding remove elem
@@ -42,6 +67,44 @@ length-remove e (c ∷ cs) =
     let go : (b : Bool) → length (cond b cs (c ∷ remove e cs)) + bit (b || elem e cs) ≡ suc (length cs) =
     elim [ true ↦ omega arith | false ↦ omega arith ] in
     go (eqb e c)
+
+pub untaken-few : (es cs : List ℕ) → length (untaken es cs) ≤ length cs
+unfolding untaken
+untaken-few [] cs = omega arith
+untaken-few (e ∷ es) cs = omega (arith, untaken-few es (remove e cs), length-remove e cs)
+
+pub elem-shorter : (e : ℕ) (cs : List ℕ) → ltb (length (remove e cs)) (length cs) ≡ elem e cs
+elem-shorter e cs =
+    let go : (b : Bool) → length (remove e cs) + bit b ≡ length cs → ltb (length (remove e cs)) (length cs) ≡ b =
+    elim [
+      | true ↦ λ h. lt-ltb (length (remove e cs)) (length cs) (omega arith)
+      | false ↦ λ h. le-ltb (length (remove e cs)) (length cs) (omega arith)
+    ] in
+    go (elem e cs) (length-remove e cs)
+
+-- all e left out: of ascending colours no more than the first
+unfoldable pub without : ℕ → List ℕ → List ℕ
+without e [] = []
+without e (c ∷ cs) = cond (eqb e c) (without e cs) (c ∷ without e cs)
+
+without-above : (e c : ℕ) (cs : List ℕ) → e ≤ c → Above c cs → without e cs ≡ cs
+unfolding without
+without-above e c [] h a = refl
+without-above e c (d ∷ ds) h a =
+    let l : c < d = a .0 in
+    rw (ne-eqb e d (λ q. omega arith), without-above e d ds (omega arith) (a .1))
+
+pub without-remove : (e : ℕ) (cs : List ℕ) → Ascending cs → without e cs ≡ remove e cs
+unfolding without remove
+without-remove e [] a = refl
+without-remove e (c ∷ cs) a =
+    let deeper : without e cs ≡ remove e cs = without-remove e cs (ascending-tail c cs a) in
+    let go : (b : Bool) → eqb e c ≡ b → cond b (without e cs) (c ∷ without e cs) ≡ cond b cs (c ∷ remove e cs) =
+    elim [
+      | true ↦ λ p. without-above e c cs (omega (arith, eqb-true e c p)) a
+      | false ↦ λ p. ap (λ (l : List ℕ). c ∷ l) deeper
+    ] in
+    go (eqb e c) refl
 
 -- into an ascending list
 unfoldable pub insert : ℕ → List ℕ → List ℕ
@@ -74,3 +137,23 @@ restore e (c ∷ cs) a =
           put-cons (elem e cs) e c (remove e cs) (above-elem e c cs a) ∙ ap (λ (l : List ℕ). c ∷ l) deeper
     ] in
     go (eqb e c) refl
+
+-- ---- the cache bits
+
+pub cache-step : (e : ℕ) (es cs : List ℕ) → 0 < length cs → cacheWords (e ∷ es) cs ≡ bypass 1 (bit (elem e cs)) ∷ cacheWords es (remove e cs)
+unfolding cacheWords
+cache-step e es [] h = absurd (omega arith)
+cache-step e es (c ∷ cs) h = refl
+
+-- once all colours are taken
+pub cache-none : (es cs : List ℕ) → length cs ≡ 0 → cacheWords es cs ≡ []
+unfolding cacheWords
+cache-none [] cs h = refl
+cache-none (e ∷ es) [] h = refl
+cache-none (e ∷ es) (c ∷ cs) h = absurd (omega arith)
+
+pub untaken-none : (es cs : List ℕ) → length cs ≡ 0 → untaken es cs ≡ cs
+unfolding untaken remove
+untaken-none [] cs h = refl
+untaken-none (e ∷ es) [] h = untaken-none es [] refl
+untaken-none (e ∷ es) (c ∷ cs) h = absurd (omega arith)

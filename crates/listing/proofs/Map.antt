@@ -15,7 +15,7 @@ use Rattle.lists.proofs.Counted.{allBelow-at}
 use Rattle.context.specs.Map.{cell, rowAt, colAt, linesOf, lengthOf, lineCell}
 use Rattle.context.specs.Order.{Around, byThree, around, rankOf}
 use Rattle.literals.specs.Words.{word}
-use Rattle.emit.specs.Map.{cellWord, rowContext, cellsOf, lineWords}
+use Rattle.emit.specs.Map.{rankedWord, cellWord, lineWord, rowContext, sentCells, lineWords}
 use Rattle.accept.specs.Accepted.{lineOk}
 use Rattle.listing.proofs.Splits.{Splits, nil, cons, weaken, loop}
 use Rattle.listing.proofs.Pending.{word-injective, rank-injective}
@@ -44,7 +44,7 @@ module _ (kind : ℕ) (three : ℕ → ℕ → ℕ → Around) (w : ℕ) (m m′
   -- its word tells its index
   pub cell-tells : (n y x : ℕ) → cell m w y x < n → cell m′ w y x < n → Agree w m m′ y x
       → cellWord kind three n m w y x ≡ cellWord kind three n m′ w y x → cell m w y x ≡ cell m′ w y x
-  unfolding cellWord
+  unfolding cellWord rankedWord
   cell-tells n y x g h a e =
       let q : around three m w y x ≡ around three m′ w y x = around-agree y x a in
       word-tells (eqb (y + x) 0) kind n _ (around three m′ w y x) _ _ g h (rw q at e)
@@ -88,7 +88,7 @@ agree true w len m m′ l a h s r =
 
 module _ (t : Bool) (w lines len n : ℕ) (fs fs′ m m′ : List ℕ) (p : Fits t w lines len n fs m) (q : Fits t w lines len n fs′ m′) where
   abbrev wordAt : List ℕ → ℕ → ℕ → ℕ
-  wordAt m l a = cellWord 5 byThree n m w (rowAt t l a) (colAt t l a)
+  wordAt m l a = lineWord n t m w l a
 
   one-cell : (l a : ℕ) → l < lines → a < len → Seen t w len m m′ l → Row t w m m′ l a → wordAt m l a ≡ wordAt m′ l a
       → lineCell t m w l a ≡ lineCell t m′ w l a
@@ -97,8 +97,8 @@ module _ (t : Bool) (w lines len n : ℕ) (fs fs′ m m′ : List ℕ) (p : Fits
       cell-tells 5 byThree w m m′ n (rowAt t l a) (colAt t l a) (p .index l a g h) (q .index l a g h) (agree t w len m m′ l a h s r) e
 
   cells : (f l : ℕ) → 0 < len → l < lines → lineOk f (lineCell t m w) len l ≡ true → lineOk f (lineCell t m′ w) len l ≡ true
-      → Seen t w len m m′ l → Splits (cellsOf f (wordAt m l) len) (cellsOf f (wordAt m′ l) len) (Row t w m m′ l len)
-  unfolding cellsOf lineOk
+      → Seen t w len m m′ l → Splits (upTo (λ a. wordAt m l a ∷ []) (sentCells f len)) (upTo (λ a. wordAt m′ l a ∷ []) (sentCells f len)) (Row t w m m′ l len)
+  unfolding upTo sentCells lineOk
   cells zero l z g u v s =
       loop _ _ (Row t w m m′ l) len (λ j h. absurd (omega arith))
       (λ a h r.

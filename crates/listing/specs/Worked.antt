@@ -10,7 +10,7 @@ use Rattle.context.specs.Order.{choose, byThree, around, others, orderOf, place
 use Rattle.literals.specs.Words.{word, bypass, rawBits, rawWidth}
 use Rattle.literals.specs.Literals.{largestStep, stepBits, cutBits, stepWords, moreWords, literalWords, stepsWidth, literalBits}
 use Rattle.emit.specs.Colors.{remove, cacheWords, untaken, colorWords}
-use Rattle.emit.specs.Map.{cellWord, rowContext, cellsOf, lineWords, orientWords, mapWords}
+use Rattle.emit.specs.Map.{rankedWord, cellWord, rowContext, sentCells, lineWords, orientWords, mapWords}
 use Rattle.accept.specs.Palette.{Palette}
 use Rattle.listing.specs.Listing.{callList}
 
@@ -39,5 +39,5 @@ starred =
     ∷ []
 
 pub starred-hold : map (λ r. r .0) starred ≡ map (λ r. r .1) starred
-unfolding starred block word rawBits rawWidth uniformBits leastBits ceilLog2 callList colorWords cacheWords untaken remove literalWords moreWords stepWords stepBits cutBits largestStep literalBits stepsWidth mapWords orientWords upTo lineWords rowContext cellsOf cellWord cell around byThree choose rankOf orderOf place others elem
+unfolding starred block word rawBits rawWidth uniformBits leastBits ceilLog2 callList colorWords cacheWords untaken remove literalWords moreWords stepWords stepBits cutBits largestStep literalBits stepsWidth mapWords orientWords upTo lineWords rowContext sentCells rankedWord cellWord cell around byThree choose rankOf orderOf place others elem
 starred-hold = refl

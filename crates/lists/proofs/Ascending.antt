@@ -2,9 +2,11 @@
 use mathlib.Core.Path.{_≡_, refl}
 use mathlib.Core.Bool.{Bool, true, false, _&&_, _||_, false≢true}
 use mathlib.Core.List.{List, [], _∷_}
-use Prim.Native.Nat.{ℕ, _<_}
+use Prim.Native.Nat.{ℕ, zero, suc, _+_, _<_}
+use native.Mathlib.Numerals.{add-one}
 use native.Mathlib.Omega.{arith}
 use lib.Dec.{eqb, ltb}
+use lib.ListN.{length, getD}
 use borrow.Author.Tests.{eqb-true, ltb-true, lt-ltb}
 use Rattle.lists.specs.Counted.{elem, above, ascending}
 use Rattle.lists.proofs.Choice.{and-l, and-r, and-both}
@@ -54,3 +56,20 @@ above-elem e c (d ∷ ds) a t =
     let go : (b : Bool) → eqb e d ≡ b → b || elem e ds ≡ true → c < e =
     elim [ true ↦ λ p u. omega (arith, eqb-true e d p) | false ↦ λ p u. omega (arith, deeper u) ] in
     go (eqb e d) refl t
+
+-- the tests, at neighbours and after the first
+above-at : (c : ℕ) (cs : List ℕ) → above c cs ≡ true → (i : ℕ) → i < length cs → getD (c ∷ cs) i 0 < getD cs i 0
+unfolding above
+above-at c [] e i h = absurd (omega arith)
+above-at c (d ∷ ds) e zero h = ltb-true c d (and-l (ltb c d) (above d ds) e)
+above-at c (d ∷ ds) e (suc i) h = above-at d ds (and-r (ltb c d) (above d ds) e) i (omega arith)
+
+pub ascending-at : (cs : List ℕ) → ascending cs ≡ true → (i : ℕ) → i + 1 < length cs → getD cs i 0 < getD cs (i + 1) 0
+unfolding ascending
+ascending-at [] e i h = absurd (omega arith)
+ascending-at (c ∷ cs) e i h = rw add-one (above-at c cs e i (omega arith))
+
+pub ascends-tail : (c : ℕ) (cs : List ℕ) → ascending (c ∷ cs) ≡ true → ascending cs ≡ true
+unfolding ascending above
+ascends-tail c [] e = refl
+ascends-tail c (d ∷ ds) e = and-r (ltb c d) (above d ds) e

@@ -7,9 +7,14 @@ use Prim.Native.Nat.{ℕ, zero, suc, _+_, _<_, _≤_}
 use native.Mathlib.Nat.{eq-or-lt-of-le, le-of-suc-le-suc}
 use native.Mathlib.Numerals.{add-one}
 use native.Mathlib.Omega.{arith}
+use lib.Dec.{leb}
+use borrow.Author.Tests.{leb-true}
 use lib.ListN.{length, getD, length-append}
-use Rattle.lists.specs.Counted.{upTo, allBelow, allIn, bit}
+use Rattle.lists.specs.Counted.{within, upTo, allBelow, allIn, bit}
 use Rattle.lists.proofs.Choice.{and-l, and-r, and-both}
+
+pub within-at : (a b x : ℕ) → within a b x ≡ true → (a ≤ x) × (x ≤ b)
+within-at a b x e = (leb-true a x (and-l (leb a x) (leb x b) e), leb-true x b (and-r (leb a x) (leb x b) e))
 
 pub allBelow-at : (f : ℕ → Bool) (n : ℕ) → allBelow f n ≡ true → (i : ℕ) → i < n → f i ≡ true
 unfolding allBelow

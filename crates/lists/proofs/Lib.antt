@@ -1,5 +1,6 @@
 pub mod Ascending
 pub mod Choice
 pub mod Counted
+pub mod Elem
 pub mod Rest
 pub mod Written

@@ -15,7 +15,8 @@ use Rattle.lists.specs.Counted.{ascending}
 use Rattle.lists.proofs.Rest.{next, done}
 use Rattle.literals.specs.Words.{bypass}
 use Rattle.literals.specs.Literals.{levelsOk, stepBits, cutBits, stepWords, moreWords, literalWords}
-use Rattle.literals.proofs.Levels.{ascending-at, level-at}
+use Rattle.lists.proofs.Ascending.{ascending-at}
+use Rattle.literals.proofs.Levels.{level-at}
 
 -- an array of eight has n places for each n up to 8
 pub eight : (n : ℕ) (colors : List ℕ) (vs : List Val) → Is (Array (eInt w16 .ty) 8) colors vs → n ≤ 8 → n ≤ length colors

@@ -48,12 +48,12 @@ fn greater(a: u32, b: u32) -> u32
     if a < b { b } else { a }
 }
 
-// The largest level at a depth.
-fn top_level(bd: u32) -> u32
+// The largest level of a depth.
+pub fn top_level(bd: u32) -> Level
     requires { ⌜ bd ≤ 12 ⌝ }
-    ensures { λ r. ⌜ r ≡ 2 ^ bd - 1 ⌝ }
+    ensures { λ r. ⌜ r .0 ≡ 2 ^ bd - 1 ⌝ }
 {
-    (1u32 << bd) - 1
+    Level(((1u64 << bd) - 1) as u16)
 }
 
 fn level_at(colors: [u16; 8], i: usize) -> Level
@@ -103,7 +103,7 @@ fn cut_bits(bd: u32, b: u32, level: Level) -> u32
     requires { ⌜ (bd ≤ 12) × (level .0 ≤ 2 ^ bd - 1) ⌝ }
     ensures { λ r. ⌜ r ≡ cutBits bd b (level .0) ⌝ }
 {
-    lesser(b, counts::ceil_log2(top_level(bd) - wide(level)))
+    lesser(b, counts::ceil_log2(wide(top_level(bd)) - wide(level)))
 }
 
 // The steps of the first n colours, the first of them in `first` bits.

@@ -10,6 +10,9 @@ top-level-requires c κs = search needs
 wide-requires : tie.Need-wide-requires
 wide-requires c κs = search needs
 
+wide-requires-2 : tie.Need-wide-requires-2
+wide-requires-2 c κs = search needs
+
 sub-ceil-log2 : tie.Need-sub-ceil-log2
 sub-ceil-log2 c = search needs
 
@@ -22,9 +25,9 @@ lesser-requires c κs = search needs
 returns : tie.Need-returns
 unfolding cutBits
 returns c =
-    let level = c .before .before .wide in
-    let top = c .before .before .before .top-level in
-    rw (c .lesser .ensures, c .before .ceil-log2 .ensures, level .ensures .0, top .ensures) refl
+    let level = c .before .before .wide2 in
+    let top = c .before .before .before .wide in
+    rw (c .lesser .ensures, c .before .ceil-log2 .ensures, level .ensures .0, top .ensures .0, c .before .before .before .before .top-level .ensures) refl
 
 pub cut-bits-spec : {M : Type 1} → statement M
 cut-bits-spec =
@@ -32,6 +35,7 @@ cut-bits-spec =
     (tie.spec
     top-level-requires
     wide-requires
+    wide-requires-2
     sub-ceil-log2
     ceil-log2-requires
     lesser-requires

@@ -1,0 +1,154 @@
+-- Each test of `refusal`, in its order. Assumes nothing.
+use mathlib.Core.Bool.{Bool, true, false, cond}
+use mathlib.Core.Path.{_≡_, refl, sym, _∙_}
+use native.Mathlib.Nat.{mul-le-mul, lt-of-le-of-lt}
+use denote.Ref.{now}
+use mir.Syntax.{w16}
+use borrow.Author.Needs.{needs}
+use borrow.Author.Tests.{lt-leb, le-leb, eq-eqb, ne-eqb, not-true, not-false}
+use borrow.Kind.Array.{good-length, eInt}
+use lib.Dec.{ltb, lit<}
+use lib.ListN.{length}
+use Rattle.lists.specs.Counted.{allIn}
+use Rattle.accept.specs.Accepted.{sidesOk, depthOk, colorsOk, orientOk, cacheOk, countsOk, mapOk, refusal}
+use Rattle.accept.specs.Palette.{Palette, paletteOf}
+use Rattle.accept.proofs.Accepted.{sides-at}
+use Rattle.lists.proofs.Counted.{within-at}
+use Rattle.accept.proofs.Levels.{length-given}
+use Rattle.accept.proofs.fault.Statement.{statement}
+use Rattle.accept.proofs.fault.Tie as tie
+
+-- where the call starts, and its palette
+abbrev start : tie.Else1 → tie.Start
+start c = c .before .before .before .before
+
+abbrev given : tie.Start → Palette
+given c = paletteOf (c .args .colors) (c .args .n) (c .args .transposed) (now (c .args .map)) (now (c .args .flags))
+
+-- the tests that were passed
+sides : (c : tie.Else1) → sidesOk (start c .args .width) (start c .args .height) ≡ true
+sides c = sym (c .before .sides-ok .ensures) ∙ not-false _ (c .if1 .left)
+
+depth : (c : tie.Else2) → depthOk (start (c .before .before) .args .bd) ≡ true
+unfolding depthOk
+depth c = sym (c .before .within .ensures) ∙ not-false _ (c .if2 .left)
+
+colors : (c : tie.Else3) → let s = start (c .before .before .before .before) in colorsOk (s .args .bd) (given s .colors) ≡ true
+colors c = sym (c .before .colors-ok .ensures) ∙ not-false _ (c .if3 .left)
+
+orient : (c : tie.Else4) → let a = start (c .before .before .before .before .before .before) .args in orientOk (a .width) (a .height) (a .transposed) ≡ true
+orient c = sym (c .before .orient-ok .ensures) ∙ not-false _ (c .if4 .left)
+
+-- 14 and 15 are left
+rest : (c : tie.Else5) → let s = start (c .before .before .before .before .before .before .before) in let w = s .args .width in let h = s .args .height in
+    refusal w h (s .args .bd) (s .args .cached) (given s) ≡ cond (countsOk w h (given s)) (cond (mapOk w h (given s)) 0 15) 14
+unfolding refusal cacheOk
+rest c = rw (sides (c .before .before .before .before .before .before .before), depth (c .before .before .before .before .before), colors (c .before .before .before), orient (c .before), le-leb _ _ (c .if5 .left)) refl
+
+counts : (c : tie.Else7) → let s = start (c .before .before .before .before .before .before .before .before .before .before) in countsOk (s .args .width) (s .args .height) (given s) ≡ true
+unfolding countsOk
+counts c = rw (eq-eqb _ _ (c .before .before .if6 .left), eq-eqb _ _ (c .if7 .left ∙ c .before .lines-of .ensures)) refl
+
+-- what the test of the indices says
+indices : (c : tie.After-indices-ok) (b : Bool) → c .indices-ok .result ≡ b
+    → let s = start (c .before .before .before .before .before .before .before .before .before .before .before) in allIn (λ i. ltb i (length (given s .colors))) (now (s .args .map)) ≡ b
+indices c b e =
+    let s = start (c .before .before .before .before .before .before .before .before .before .before .before) in
+    let eight : length (s .args .colors) ≡ 8 = good-length (eInt w16) 8 (s .args .colors) _ (s .good .1 .1 .1 .0) in
+    rw (length-given (s .args .colors) eight (s .args .bd) (s .args .n) (colors (c .before .before .before .before .before .before .before))) (sym (c .indices-ok .ensures) ∙ e)
+
+sides-ok-requires : tie.Need-sides-ok-requires
+sides-ok-requires c κs = search needs
+
+returns : tie.Need-returns
+unfolding refusal
+returns c = rw (sym (c .before .sides-ok .ensures) ∙ not-true _ (c .if1 .taken)) refl
+
+within-requires : tie.Need-within-requires
+within-requires c κs = search needs
+
+returns-2 : tie.Need-returns-2
+unfolding refusal depthOk
+returns-2 c = rw (sides (c .before .before), sym (c .before .within .ensures) ∙ not-true _ (c .if2 .taken)) refl
+
+colors-ok-requires : tie.Need-colors-ok-requires
+unfolding depthOk
+colors-ok-requires c κs = within-at 8 12 (start (c .before .before) .args .bd) (depth c) .1
+
+returns-3 : tie.Need-returns-3
+unfolding refusal
+returns-3 c = rw (sides (c .before .before .before .before), depth (c .before .before), sym (c .before .colors-ok .ensures) ∙ not-true _ (c .if3 .taken)) refl
+
+orient-ok-requires : tie.Need-orient-ok-requires
+orient-ok-requires c κs = search needs
+
+returns-4 : tie.Need-returns-4
+unfolding refusal
+returns-4 c = rw (sides (c .before .before .before .before .before .before), depth (c .before .before .before .before), colors (c .before .before), sym (c .before .orient-ok .ensures) ∙ not-true _ (c .if4 .taken)) refl
+
+returns-5 : tie.Need-returns-5
+unfolding refusal cacheOk
+returns-5 c = rw (sides (c .before .before .before .before .before .before .before), depth (c .before .before .before .before .before), colors (c .before .before .before), orient (c .before), lt-leb _ _ (c .if5 .taken)) refl
+
+mul-if6 : tie.Need-mul-if6
+mul-if6 c =
+    let s = sides-at _ _ (sides (c .before .before .before .before .before .before .before)) in
+    record { fits = lt-of-le-of-lt (mul-le-mul (s .0 .1) (s .1 .1)) (lit< tt) }
+
+returns-6 : tie.Need-returns-6
+unfolding countsOk
+returns-6 c = sym (rest (c .before) ∙ rw (ne-eqb _ _ (c .if6 .taken)) refl)
+
+lines-of-requires : tie.Need-lines-of-requires
+lines-of-requires c κs = search needs
+
+returns-7 : tie.Need-returns-7
+unfolding countsOk
+returns-7 c =
+    sym (rest (c .before .before .before)
+    ∙ rw (eq-eqb _ _ (c .before .before .if6 .left), ne-eqb _ _ (λ e. c .if7 .taken (e ∙ sym (c .before .lines-of .ensures)))) refl)
+
+indices-ok-requires : tie.Need-indices-ok-requires
+indices-ok-requires c κs = search needs
+
+returns-8 : tie.Need-returns-8
+unfolding mapOk
+returns-8 c = sym (rest (c .before .before .before .before .before) ∙ rw (counts (c .before .before), indices (c .before) false (not-true _ (c .if8 .taken))) refl)
+
+lines-ok-requires : tie.Need-lines-ok-requires
+lines-ok-requires c κs = search needs
+
+returns-9 : tie.Need-returns-9
+unfolding mapOk
+returns-9 c =
+    sym (rest (c .before .before .before .before .before .before .before)
+    ∙ rw (counts (c .before .before .before .before), indices (c .before .before .before) true (not-false _ (c .before .before .if8 .left)), sym (c .before .lines-ok .ensures) ∙ not-true _ (c .if9 .taken)) refl)
+
+returns-10 : tie.Need-returns-10
+unfolding mapOk
+returns-10 c =
+    sym (rest (c .before .before .before .before .before .before .before)
+    ∙ rw (counts (c .before .before .before .before), indices (c .before .before .before) true (not-false _ (c .before .before .if8 .left)), sym (c .before .lines-ok .ensures) ∙ not-false _ (c .if9 .left)) refl)
+
+pub fault-spec : {M : Type 1} → statement M
+fault-spec =
+    tie.close
+    (tie.spec
+    sides-ok-requires
+    returns
+    within-requires
+    returns-2
+    colors-ok-requires
+    returns-3
+    orient-ok-requires
+    returns-4
+    returns-5
+    mul-if6
+    returns-6
+    lines-of-requires
+    returns-7
+    indices-ok-requires
+    returns-8
+    lines-ok-requires
+    returns-9
+    returns-10)

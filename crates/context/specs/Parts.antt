@@ -1,0 +1,37 @@
+-- What the functions within the crate answer: the steps of `color_ctx`.
+use Prim.Native.Nat.{ℕ, _-_}
+use mathlib.Core.Bool.{Bool, cond, _&&_}
+use mathlib.Core.List.{List, [], _∷_, _++_}
+use lib.Dec.{ltb}
+use lib.ListN.{length, getD, replicate}
+use Rattle.lists.specs.Counted.{allIn}
+use Rattle.context.specs.Order.{Around, byThree}
+use Rattle.context.specs.Context.{answered, refused}
+use Rattle.context.specs.declared.Context.{Context}
+use Rattle.context.specs.declared.Near.{Near}
+use Rattle.context.specs.declared.Neighbour.{Neighbour}
+use Rattle.context.specs.declared.Neighbour.the-variants.{Color, Nothing}
+
+-- a list in eight places, with zeros after it
+abbrev pub padded : List ℕ → List ℕ
+padded xs = xs ++ replicate (8 - length xs) 0
+
+abbrev pub held : Around → Near
+held a = record { ctx = a .ctx; count = length (a .firsts); firsts = padded (a .firsts) }
+
+-- place p stands in the map and has an index below n
+abbrev pub usable : List ℕ → ℕ → ℕ → Bool
+usable map n p = ltb p (length map) && ltb (getD map p 0) n
+
+unfoldable pub neighbourAt : List ℕ → ℕ → ℕ → Neighbour
+neighbourAt map n p = cond (usable map n p) (Color (record { 0 = getD map p 0 })) Nothing
+
+-- from the neighbour at place p, on the top row or in the left column
+unfoldable pub oneAt : List ℕ → ℕ → ℕ → Context
+oneAt map n p = cond (allIn (usable map n) (p ∷ [])) (answered (record { ctx = 0; firsts = getD map p 0 ∷ [] }) n) refused
+
+-- from the neighbours at the places l, t and d, elsewhere
+unfoldable pub threeAt : List ℕ → ℕ → ℕ → ℕ → ℕ → Context
+threeAt map n l t d =
+    cond (allIn (usable map n) (l ∷ t ∷ d ∷ []))
+    (answered (byThree (getD map l 0) (getD map t 0) (getD map d 0)) n) refused

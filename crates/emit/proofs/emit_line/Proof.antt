@@ -1,0 +1,49 @@
+use Rattle.emit.specs.Map.{sentCells}
+use Rattle.lists.specs.Written.{written}
+use lib.ListN.{length}
+use native.Mathlib.Omega.{arith}
+use mathlib.Core.Path.{_≡_, refl, _∙_}
+use Prim.Native.Nat.{ℕ, _+_, _≤_}
+use borrow.Author.Needs.{needs}
+use Rattle.emit.proofs.emit_line.Statement.{statement}
+use Rattle.emit.proofs.emit_line.Tie as tie
+
+wide-requires : tie.Need-wide-requires
+wide-requires c κs = search needs
+
+call-requires : tie.Need-call-requires
+call-requires c κs = search needs
+
+put-requires : tie.Need-put-requires
+put-requires c κs = search needs
+
+sent-cells-requires : tie.Need-sent-cells-requires
+sent-cells-requires c κs = search needs
+
+emit-cells-requires : tie.Need-emit-cells-requires
+emit-cells-requires c κs = let k = c .before .sent-cells in
+    let p = c .before .before .before .before .put in
+    let h : p .result + k .result ≤ length (p .last .0) = omega (arith, k .ensures, p .ensures .0, p .kept .0, c .before .before .before .before .before .before .before .before .before .before .pre .1 .1) in
+    (rw (k .ensures) (c .before .before .before .before .before .before .before .before .before .before .pre .0), h)
+
+same-length : tie.Need-same-length
+same-length c = search needs
+
+returns : tie.Need-returns
+unfolding written
+returns c = let k = c .before .before .before .before .sent-cells in
+    let p = c .before .before .before .before .before .before .before .put in
+    let e = c .before .before .emit-cells in
+    (omega (arith, e .ensures .0, k .ensures, p .ensures .0), e .ensures .1 ∙ rw (p .ensures .1, p .ensures .0, k .ensures, c .before .before .before .before .before .before .before .before .call .ensures, c .before .before .before .before .before .before .before .before .before .wide .ensures .0) refl)
+
+pub emit-line-spec : {M : Type 1} → statement M
+emit-line-spec =
+    tie.close
+    (tie.spec
+    wide-requires
+    call-requires
+    put-requires
+    sent-cells-requires
+    emit-cells-requires
+    same-length
+    returns)
