@@ -26,10 +26,7 @@ fn byte_at(s: &[u8], at: usize) -> u8
 fn is_digit(b: u8) -> bool
     ensures { λ r. ⌜ r ≡ isDigit b ⌝ }
 {
-    if b < 48 {
-        return false;
-    }
-    b <= 57
+    (48 <= b) & (b <= 57)
 }
 
 fn digit(b: u8) -> u32

@@ -14,7 +14,7 @@ use Rattle.literals.specs.Literals.{largestStep, stepBits, cutBits, stepWords, 
 use Rattle.emit.specs.Colors.{remove, cacheWords, untaken, colorWords}
 use Rattle.emit.proofs.Untaken.{ascending-remove, ascending-untaken, length-remove, insert, restore}
 use Rattle.listing.proofs.Splits.{Splits, nil, cons, weaken, then}
-use Rattle.listing.proofs.Pending.{word-injective}
+use Rattle.literals.proofs.Words.{word-injective}
 
 -- after the cache bits: as many untaken colours, and from these the colours
 record After (es us vs : List ℕ) : Type 0 where

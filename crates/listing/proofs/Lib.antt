@@ -1,4 +1,7 @@
-pub mod Pending
-pub mod Splits
+pub mod Answers
+pub mod Begins
 pub mod Colors
+pub mod Length
 pub mod Map
+pub mod Splits
+pub mod Values

@@ -18,7 +18,8 @@ use Rattle.literals.specs.Words.{word}
 use Rattle.emit.specs.Map.{rankedWord, cellWord, lineWord, rowContext, sentCells, lineWords}
 use Rattle.accept.specs.Accepted.{lineOk}
 use Rattle.listing.proofs.Splits.{Splits, nil, cons, weaken, loop}
-use Rattle.listing.proofs.Pending.{word-injective, rank-injective}
+use Rattle.context.proofs.Order.{rank-injective}
+use Rattle.literals.proofs.Words.{word-injective}
 
 -- ---- one cell, for any rule for three neighbours and any kind of word
 

@@ -1,8 +1,34 @@
-// The listing of a palette, and its prediction.
+// The listing of a palette, and its prediction. `list` and `pred` answer for all arguments; the others serve them.
+use context::Index;
+use context::Level;
 ghost use mathlib.Core.Path.{_≡_};
-ghost use Prim.Native.Nat.{_*_, _≤_};
-ghost use lib.ListN.{length, take};
+ghost use mathlib.Core.List.{_++_};
+ghost use Prim.Native.Nat.{ℕ, _*_, _≤_, _<_};
+ghost use lib.IntN.{pos};
+ghost use lib.Ieee.{binary32, ofInt};
+ghost use lib.ListN.{length, take, drop, getD};
+ghost use Rattle.lists.specs.Written.{written};
 ghost use Rattle.literals.specs.Words.{rawBits, rawWidth};
+ghost use Rattle.accept.specs.Palette.{paletteOf};
+ghost use Rattle.accept.specs.Accepted.{Accepted};
+ghost use Rattle.listing.specs.Listing.{callList, Lists, refusedBy, valuesOf, Predicts};
+
+// The answer: number 0 with the count of words and their raw width, or a refusal with zeros.
+pub struct Listed {
+    pub number: u32,
+    pub count: usize,
+    pub raw_width: u32,
+}
+
+fn refused(number: u32) -> Listed
+    ensures { λ r. ⌜ r ≡ refusedBy number ⌝ }
+{
+    Listed {
+        number,
+        count: 0,
+        raw_width: 0,
+    }
+}
 
 // What one call adds to the raw width.
 fn raw_bits(word: u32) -> u32
@@ -31,4 +57,177 @@ fn raw_width(words: &[u32], count: usize) -> u32
         i += 1;
     }
     total
+}
+
+// The whole call list of an accepted palette, from the front.
+fn emit_list(
+    width: usize,
+    height: usize,
+    bd: u32,
+    colors: [u16; 8],
+    n: usize,
+    transposed: bool,
+    map: &[u8],
+    flags: &[u8],
+    cache: &[u16],
+    out: &mut [u32],
+) -> usize
+    requires { ⌜ Accepted width height bd (now cache) (paletteOf colors n transposed (now map) (now flags)) ⌝ }
+    requires { ⌜ (n ≤ 8) × (4234 ≤ length (now out)) ⌝ }
+    ensures { λ r. ⌜ r ≡ length (callList width height bd (now (cache .entry)) (paletteOf colors n transposed (now (map .entry)) (now (flags .entry)))) ⌝ }
+    ensures { λ r. ⌜ now (out .exit) ≡ written (now (out .entry)) 0 (callList width height bd (now (cache .entry)) (paletteOf colors n transposed (now (map .entry)) (now (flags .entry)))) ⌝ }
+{
+    let at = emit::emit_colors(colors, n, bd, cache, out, 0);
+    emit::emit_map(map, flags, width, height, n, transposed, out, at)
+}
+
+// Copies the first `count` words to the front.
+fn copy_words(from: &[u32], count: usize, to: &mut [u32])
+    requires { ⌜ (count ≤ length (now from)) × (count ≤ length (now to)) ⌝ }
+    ensures { λ r. ⌜ now (to .exit) ≡ written (now (to .entry)) 0 (take count (now (from .entry))) ⌝ }
+{
+    let mut i: usize = 0;
+    while i < count {
+        to[i] = from[i];
+        i += 1;
+    }
+}
+
+// As `list`. The list is made in `aside` first, so that no word is written where the room is too small.
+fn list_by(
+    width: usize,
+    height: usize,
+    bd: u32,
+    colors: [u16; 8],
+    n: usize,
+    transposed: bool,
+    map: &[u8],
+    flags: &[u8],
+    cache: &[u16],
+    aside: &mut [u32],
+    words: &mut [u32],
+) -> Listed
+    requires { ⌜ 4234 ≤ length (now aside) ⌝ }
+    ensures { λ r. ⌜ Lists width height bd (now (cache .entry)) (paletteOf colors n transposed (now (map .entry)) (now (flags .entry))) (now (words .entry)) (now (words .exit)) r ⌝ }
+{
+    let number = accept::fault(
+        width,
+        height,
+        bd,
+        colors,
+        n,
+        transposed,
+        map,
+        flags,
+        cache.len(),
+    );
+    if number != 0 {
+        return refused(number);
+    }
+    let count = emit_list(
+        width,
+        height,
+        bd,
+        colors,
+        n,
+        transposed,
+        map,
+        flags,
+        cache,
+        aside,
+    );
+    if words.len() < count {
+        return refused(16);
+    }
+    copy_words(aside, count, words);
+    let raw = raw_width(aside, count);
+    Listed {
+        number: 0,
+        count,
+        raw_width: raw,
+    }
+}
+
+// Lists a palette's calls from the front, or refuses it and writes nothing.
+pub fn list(
+    width: usize,
+    height: usize,
+    bd: u32,
+    colors: [u16; 8],
+    n: usize,
+    transposed: bool,
+    map: &[u8],
+    flags: &[u8],
+    cache: &[u16],
+    words: &mut [u32],
+) -> Listed
+    ensures { λ r. ⌜ Lists width height bd (now (cache .entry)) (paletteOf colors n transposed (now (map .entry)) (now (flags .entry))) (now (words .entry)) (now (words .exit)) r ⌝ }
+{
+    // The longest list: 64 by 64 cells with 64 flags, 64 cache bits, 8 colours in 9 calls, and the size.
+    let mut aside = [0u32; 4234];
+    list_by(
+        width,
+        height,
+        bd,
+        colors,
+        n,
+        transposed,
+        map,
+        flags,
+        cache,
+        &mut aside,
+        words,
+    )
+}
+
+fn color_of(colors: [u16; 8], index: Index) -> Level
+    requires { ⌜ index .0 < 8 ⌝ }
+    ensures { λ r. ⌜ r .0 ≡ getD colors (index .0) 0 ⌝ }
+{
+    let i = index.0 as usize;
+    Level(colors[i])
+}
+
+fn value_of(level: Level) -> f32
+    ensures { λ r. ⌜ r ≡ ofInt binary32 (pos (level .0)) ⌝ }
+{
+    level.0 as f32
+}
+
+// The colour of each cell, from the front.
+fn fill_values(colors: [u16; 8], map: &[u8], values: &mut [f32])
+    requires { ⌜ length (now map) ≤ length (now values) ⌝ }
+    requires { ⌜ ((i : ℕ) → i < length (now map) → getD (now map) i 0 < 8) ⌝ }
+    ensures { λ r. ⌜ now (values .exit) ≡ valuesOf colors (now (map .entry)) ++ drop (length (now (map .entry))) (now (values .entry)) ⌝ }
+{
+    let mut i: usize = 0;
+    while i < map.len() {
+        values[i] = value_of(color_of(colors, Index(map[i])));
+        i += 1;
+    }
+}
+
+// The prediction: each cell's colour as f32, from the front; or a refusal that writes nothing.
+pub fn pred(
+    width: usize,
+    height: usize,
+    bd: u32,
+    colors: [u16; 8],
+    n: usize,
+    transposed: bool,
+    map: &[u8],
+    flags: &[u8],
+    values: &mut [f32],
+) -> u32
+    ensures { λ r. ⌜ Predicts width height bd (paletteOf colors n transposed (now (map .entry)) (now (flags .entry))) (now (values .entry)) (now (values .exit)) r ⌝ }
+{
+    let number = accept::fault(width, height, bd, colors, n, transposed, map, flags, 0);
+    if number != 0 {
+        return number;
+    }
+    if values.len() < map.len() {
+        return 7;
+    }
+    fill_values(colors, map, values);
+    0
 }

@@ -6,8 +6,8 @@ use Prim.Native.Nat.{ℕ, suc, _+_, _≤_}
 use native.Mathlib.Nat.{add-zero, zero-add}
 use native.Mathlib.Numerals.{add-one}
 use native.Mathlib.Omega.{arith}
-use lib.ListN.{length, drop, set, length-set}
-use lib.Seq.{sets, sets-eq}
+use lib.ListN.{length, take, drop, set, length-set}
+use lib.Seq.{sets, sets-eq, take-at}
 use Rattle.lists.specs.Counted.{upTo}
 use Rattle.lists.specs.Written.{written, front}
 use Rattle.lists.proofs.Counted.{length-upTo}
@@ -45,3 +45,8 @@ unfolding front
 written-front l ws h =
     let k : 0 + length ws ≤ length l = omega arith in
     as-sets l 0 ws ∙ sets-eq ws l 0 k ∙ rw zero-add refl
+
+-- what was written from the front, read back
+pub written-take : (l ws : List ℕ) → length ws ≤ length l → take (length ws) (written l 0 ws) ≡ ws
+unfolding front
+written-take l ws h = rw (written-front l ws h) (take-at ws (drop (length ws) l) (length ws) refl)

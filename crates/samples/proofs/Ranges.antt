@@ -1,13 +1,13 @@
 -- What the tests of lambda, the costs and the samples say: bounds by whole numbers, and the level of a sample within one.
 use mathlib.Core.Path.{_≡_}
 use mathlib.Core.Bool.{true}
-use mathlib.Core.List.{List, [], _∷_}
+use mathlib.Core.List.{List, [], _∷_, map}
 use Prim.Native.Nat.{ℕ, zero, suc, _+_, _-_, _*_, _/_, _^_, _≤_, _<_}
 use native.Mathlib.Nat.{le-trans, sub-le, mul-pos, zero-lt-suc, le-of-suc-le-suc, div-lt-iff-lt-mul}
 use native.Mathlib.Omega.{arith}
 use lib.Dec.{eqb, lit≤}
 use lib.Pow.{pow-mono}
-use lib.ListN.{length, getD}
+use lib.ListN.{length, getD, List·getD-map}
 use lib.Ieee.{Float, nan, fin, binary32, le, ofBits}
 use lib.Ieee.Positive.{num, den, den-pos}
 use borrow.Author.Tests.{eqb-true}
@@ -42,6 +42,13 @@ costs-within costs e i l =
     all-within 32 costs (lit≤ tt) (and-r (eqb (length costs) 301) (allInRange 32 costs) e) i
     (omega (arith, costs-count costs e))
 
+-- (2 n + d) / 2 d, where n ≤ A * d
+pub rounded-le : (n d A : ℕ) → 0 < d → n ≤ A * d → (2 * n + d) / (2 * d) ≤ A
+rounded-le n d A D h = le-of-suc-le-suc (div-lt-iff-lt-mul (mul-pos (zero-lt-suc 1) D) .1 (omega arith))
+
+pub level-within : (x : Float) (A : ℕ) → Under x A → levelOf x ≤ A
+level-within (fin s m e) A h = rounded-le (num (fin s m e)) (den (fin s m e)) A (den-pos (fin s m e)) h
+
 -- a sample is at most the top level of its depth, and so is its level
 module _ (bd : ℕ) (samples : List Float) (deep : bd ≤ 12) (e : samplesOk bd samples ≡ true) (i : ℕ) (l : i < length samples) where
   pub sample-within : Within (getD samples i nan) (2 ^ bd - 1)
@@ -52,9 +59,5 @@ module _ (bd : ℕ) (samples : List Float) (deep : bd ≤ 12) (e : samplesOk bd 
   sample-within-4095 =
       let h : 2 ^ bd ≤ 4096 = pow-mono deep in within-mono (getD samples i nan) (2 ^ bd - 1) 4095 (omega arith) sample-within
 
--- (2 n + d) / 2 d, where n ≤ A * d
-level-le : (n d A : ℕ) → 0 < d → n ≤ A * d → (2 * n + d) / (2 * d) ≤ A
-level-le n d A D h = le-of-suc-le-suc (div-lt-iff-lt-mul (mul-pos (zero-lt-suc 1) D) .1 (omega arith))
-
-pub level-within : (x : Float) (A : ℕ) → Under x A → levelOf x ≤ A
-level-within (fin s m e) A h = level-le (num (fin s m e)) (den (fin s m e)) A (den-pos (fin s m e)) h
+  pub level-in : getD (map levelOf samples) i 0 ≤ 2 ^ bd - 1
+  level-in = rw (List·getD-map levelOf samples i nan) (level-within (getD samples i nan) (2 ^ bd - 1) (sample-within .0))

@@ -40,7 +40,7 @@ pub fn samples_ok(samples: &[f32], bd: u32) -> bool
 }
 
 // The largest level of the depth.
-fn top_level(bd: u32) -> u16
+pub fn top_level(bd: u32) -> u16
     requires { ⌜ (8 ≤ bd) × (bd ≤ 12) ⌝ }
     ensures { λ r. ⌜ r ≡ 2 ^ bd - 1 ⌝ }
 {

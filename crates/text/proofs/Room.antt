@@ -3,20 +3,20 @@ use Prim.Native.Nat.{ℕ, zero, suc, _+_, _*_, _≤_, _<_}
 use mathlib.Core.Path.{_≡_, refl}
 use mathlib.Core.Bool.{Bool, true, false, _&&_}
 use mathlib.Core.List.{List, [], _∷_}
-use native.Mathlib.Nat.{suc-mul, mul-one, mul-le-mul}
+use native.Mathlib.Nat.{suc-mul, mul-le-mul}
 use native.Mathlib.Omega.{arith}
 use lib.Dec.{leb, ltb, eqb}
 use lib.ListN.{length, getD, length-append}
 use borrow.Author.Tests.{leb-true, ltb-true}
 use Rattle.lists.specs.Counted.{within, upTo}
+use Rattle.lists.proofs.Counted.{length-upTo}
 use Rattle.lists.proofs.Choice.{held, either-way, and-l, and-r}
-use Rattle.context.specs.Map.{rowAt, colAt, linesOf, lengthOf}
-use Rattle.context.specs.Order.{byThree}
+use Rattle.context.specs.Map.{linesOf, lengthOf}
 use Rattle.literals.specs.Literals.{stepBits, cutBits, stepWords, moreWords, literalWords}
 use Rattle.accept.specs.Palette.{Palette}
 use Rattle.accept.specs.Accepted.{sidesOk, depthOk, colorsOk, orientOk, cacheOk, refusal}
 use Rattle.emit.specs.Colors.{remove, cacheWords, untaken, colorWords}
-use Rattle.emit.specs.Map.{cellWord, cellsOf, lineWords, orientWords, mapWords}
+use Rattle.emit.specs.Map.{lineWord, sentCells, lineWords, orientWords, mapWords}
 use Rattle.listing.specs.Listing.{callList}
 use Rattle.text.proofs.Sound.{within-most}
 use Rattle.text.proofs.Cut.{colors-few}
@@ -73,11 +73,11 @@ unfolding upTo
 upTo-most f b h zero = omega arith
 upTo-most f b h (suc n) = omega (arith, length-append (upTo f n) (f n), upTo-most f b h n, h n, suc-mul n b)
 
-cells-most : (f : ℕ) (g : ℕ → ℕ) (len : ℕ) → 1 ≤ len → length (cellsOf f g len) ≤ len
-unfolding cellsOf
-cells-most zero g len h = omega (arith, upTo-most (λ a. g a ∷ []) 1 (λ i. omega arith) len, mul-one len)
-cells-most (suc zero) g len h = h
-cells-most (suc (suc f)) g len h = omega arith
+sent-most : (f len : ℕ) → 1 ≤ len → sentCells f len ≤ len
+unfolding sentCells
+sent-most zero len h = omega arith
+sent-most (suc zero) len h = h
+sent-most (suc (suc f)) len h = omega arith
 
 module _ (n : ℕ) (t : Bool) (fs m : List ℕ) (w h : ℕ) (a : 1 ≤ w) (b : 1 ≤ h) where
   lines-most : (top : ℕ) → w ≤ top → h ≤ top
@@ -89,7 +89,7 @@ module _ (n : ℕ) (t : Bool) (fs m : List ℕ) (w h : ℕ) (a : 1 ≤ w) (b : 1
       let l : len ≤ top = either-way (λ k. k ≤ top) t h w d c in
       let long : len + 1 ≤ top + 1 = omega arith in
       let line : (i : ℕ) → length (lineWords n t fs m w len i) ≤ len + 1 =
-      λ i. omega (arith, cells-most (getD fs i 0) (λ x. cellWord 5 byThree n m w (rowAt t i x) (colAt t i x)) len some) in
+      λ i. omega (arith, length-upTo (lineWord n t m w i) (sentCells (getD fs i 0) len), sent-most (getD fs i 0) len some) in
       omega (
         arith,
         upTo-most (lineWords n t fs m w len) (len + 1) line (linesOf t w h),

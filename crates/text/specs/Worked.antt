@@ -12,7 +12,7 @@ use Rattle.literals.specs.Words.{word}
 use Rattle.literals.specs.Literals.{levelsOk, largestStep, stepBits, cutBits, stepWords, moreWords, literalWords}
 use Rattle.accept.specs.Accepted.{sidesOk, depthOk, colorsOk, orientOk, cacheOk, countsOk, lineOk, mapOk, refusal}
 use Rattle.emit.specs.Colors.{remove, cacheWords, untaken, colorWords}
-use Rattle.emit.specs.Map.{cellWord, rowContext, cellsOf, lineWords, orientWords, mapWords}
+use Rattle.emit.specs.Map.{rankedWord, cellWord, rowContext, sentCells, lineWords, orientWords, mapWords}
 use Rattle.listing.specs.Listing.{callList}
 use Rattle.fields.specs.Fields.{isDigit, column, columns, fieldAt, isLine, lineNumbers, areRows, rowNumbers}
 use Rattle.printing.specs.Printing.{digits, field, line, callLine, callLines, listed, refused}
@@ -89,5 +89,5 @@ worked = (
     ∷ []
 
 pub worked-hold : map (λ r. r .0) worked ≡ map (λ r. r .1) worked
-unfolding worked given lines bytes answer shown textNumber headerAt headerFault placesOf isBody cacheAt paletteAt isDigit column columns fieldAt isLine lineNumbers areRows rowNumbers digits field line callLine callLines listed refused sidesOk depthOk colorsOk orientOk cacheOk countsOk lineOk mapOk refusal levelsOk allIn allBelow above ascending lineCell word callList colorWords cacheWords untaken remove literalWords moreWords stepWords stepBits cutBits largestStep leastBits ceilLog2 mapWords orientWords upTo lineWords rowContext cellsOf cellWord cell around byThree choose rankOf orderOf place others elem
+unfolding worked given lines bytes answer shown textNumber headerAt headerFault placesOf isBody cacheAt paletteAt isDigit column columns fieldAt isLine lineNumbers areRows rowNumbers digits field line callLine callLines listed refused sidesOk depthOk colorsOk orientOk cacheOk countsOk lineOk mapOk refusal levelsOk allIn allBelow above ascending lineCell word callList colorWords cacheWords untaken remove literalWords moreWords stepWords stepBits cutBits largestStep leastBits ceilLog2 mapWords orientWords upTo lineWords rowContext sentCells rankedWord cellWord cell around byThree choose rankOf orderOf place others elem
 worked-hold = refl

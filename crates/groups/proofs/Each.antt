@@ -1,0 +1,51 @@
+-- What holds of each number of a list, and strictly ascending lists that grow at the end.
+use mathlib.Core.Path.{_≡_, refl}
+use mathlib.Core.Bool.{Bool, true}
+use mathlib.Core.List.{List, [], _∷_, _++_}
+use Prim.Native.Nat.{ℕ, zero, suc, _<_}
+use native.Mathlib.Omega.{arith}
+use lib.ListN.{length, getD}
+use Rattle.lists.specs.Counted.{allIn}
+use Rattle.lists.proofs.Choice.{and-both}
+use Rattle.lists.proofs.Ascending.{Above, Ascending}
+
+abbrev pub Each : (ℕ → Type 0) → List ℕ → Type 0
+Each P [] = Unit {0}
+Each P (x ∷ xs) = P x × Each P xs
+
+pub each-at : (P : ℕ → Type 0) (xs : List ℕ) → Each P xs → (i : ℕ) → i < length xs → P (getD xs i 0)
+each-at P [] e i h = absurd (omega arith)
+each-at P (x ∷ xs) e zero h = e .0
+each-at P (x ∷ xs) e (suc i) h = each-at P xs (e .1) i (omega arith)
+
+pub each-weaken : (P Q : ℕ → Type 0) (xs : List ℕ) → ((x : ℕ) → P x → Q x) → Each P xs → Each Q xs
+each-weaken P Q [] f e = tt
+each-weaken P Q (x ∷ xs) f e = (f x (e .0), each-weaken P Q xs f (e .1))
+
+pub each-snoc : (P : ℕ → Type 0) (xs : List ℕ) (y : ℕ) → Each P xs → P y → Each P (xs ++ (y ∷ []))
+each-snoc P [] y e p = (p, tt)
+each-snoc P (x ∷ xs) y e p = (e .0, each-snoc P xs y (e .1) p)
+
+-- the same as a test
+pub each-all : (f : ℕ → Bool) (xs : List ℕ) → Each (λ x. f x ≡ true) xs → allIn f xs ≡ true
+unfolding allIn
+each-all f [] e = refl
+each-all f (x ∷ xs) e = and-both (f x) (allIn f xs) (e .0) (each-all f xs (e .1))
+
+-- ---- ascending lists
+above-snoc : (c : ℕ) (xs : List ℕ) (y : ℕ) → Above c xs → c < y → Each (λ x. x < y) xs → Above c (xs ++ (y ∷ []))
+above-snoc c [] y a h e = (h, tt)
+above-snoc c (x ∷ xs) y a h e = (a .0, above-snoc x xs y (a .1) (e .0) (e .1))
+
+pub ascending-snoc : (xs : List ℕ) (y : ℕ) → Ascending xs → Each (λ x. x < y) xs → Ascending (xs ++ (y ∷ []))
+ascending-snoc [] y a e = tt
+ascending-snoc (x ∷ xs) y a e = above-snoc x xs y a (e .0) (e .1)
+
+above-at : (c : ℕ) (xs : List ℕ) → Above c xs → (i : ℕ) → i < length xs → getD (c ∷ xs) i 0 < getD xs i 0
+above-at c [] a i h = absurd (omega arith)
+above-at c (x ∷ xs) a zero h = a .0
+above-at c (x ∷ xs) a (suc i) h = above-at x xs (a .1) i (omega arith)
+
+pub ascending-at : (xs : List ℕ) → Ascending xs → (i : ℕ) → suc i < length xs → getD xs i 0 < getD xs (suc i) 0
+ascending-at [] a i h = absurd (omega arith)
+ascending-at (x ∷ xs) a i h = above-at x xs a i (omega arith)

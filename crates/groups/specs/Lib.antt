@@ -1,0 +1,3 @@
+pub mod Histogram
+pub mod Groups
+pub mod Tables

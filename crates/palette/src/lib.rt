@@ -1,0 +1,68 @@
+// The front door: everything that is open to callers, each function for all arguments.
+use context::Context;
+use listing::Listed;
+ghost use mathlib.Core.Path.{_≡_};
+ghost use Rattle.counts.specs.Counts.{blockAllowed};
+ghost use Rattle.context.specs.Context.{contextOf};
+ghost use Rattle.accept.specs.Palette.{paletteOf};
+ghost use Rattle.listing.specs.Listing.{Lists, Predicts};
+
+// Whether a block of these sides, in units of 4, may have a palette.
+pub fn block_allowed(bw4: usize, bh4: usize) -> bool
+    ensures { λ r. ⌜ r ≡ blockAllowed bw4 bh4 ⌝ }
+{
+    counts::block_allowed(bw4, bh4)
+}
+
+// The context at row y and column x of an index map, and the order of the n indices there.
+pub fn color_ctx(map: &[u8], stride: usize, y: usize, x: usize, n: usize) -> Context
+    ensures { λ r. ⌜ r ≡ contextOf (now (map .entry)) stride y x n ⌝ }
+{
+    context::color_ctx(map, stride, y, x, n)
+}
+
+// Lists a palette's calls from the front of `words`, or refuses it and writes nothing.
+pub fn list(
+    width: usize,
+    height: usize,
+    bd: u32,
+    colors: [u16; 8],
+    n: usize,
+    transposed: bool,
+    map: &[u8],
+    flags: &[u8],
+    cache: &[u16],
+    words: &mut [u32],
+) -> Listed
+    ensures { λ r. ⌜ Lists width height bd (now (cache .entry)) (paletteOf colors n transposed (now (map .entry)) (now (flags .entry))) (now (words .entry)) (now (words .exit)) r ⌝ }
+{
+    listing::list(
+        width,
+        height,
+        bd,
+        colors,
+        n,
+        transposed,
+        map,
+        flags,
+        cache,
+        words,
+    )
+}
+
+// Each cell's colour as f32, from the front of `values`; or a refusal that writes nothing.
+pub fn pred(
+    width: usize,
+    height: usize,
+    bd: u32,
+    colors: [u16; 8],
+    n: usize,
+    transposed: bool,
+    map: &[u8],
+    flags: &[u8],
+    values: &mut [f32],
+) -> u32
+    ensures { λ r. ⌜ Predicts width height bd (paletteOf colors n transposed (now (map .entry)) (now (flags .entry))) (now (values .entry)) (now (values .exit)) r ⌝ }
+{
+    listing::pred(width, height, bd, colors, n, transposed, map, flags, values)
+}
