@@ -6,12 +6,15 @@ mod av2 {
     include!(concat!(env!("OUT_DIR"), "/original.rs"));
 }
 
+pub mod answers;
 mod c_interface;
 pub mod check;
 pub mod generate;
 mod lent;
+pub mod listing_text;
 mod original;
 mod places;
+pub mod replay;
 pub mod text;
 pub mod worked;
 

@@ -1,16 +1,20 @@
 -- The three answers of `list`: a fault, too small a room, the list. Assumes nothing.
-use mathlib.Core.Path.{_≡_, refl, sym}
+use mathlib.Core.Path.{_≡_, refl, sym, _∙_}
+use mathlib.Core.Bool.{Bool, true, false, cond}
 use mathlib.Core.List.{List}
 use Prim.Native.Nat.{ℕ, _≤_, _<_}
+use native.Mathlib.Omega.{arith}
 use lib.Dec.{eqb, leb}
 use lib.ListN.{length}
-use borrow.Author.Tests.{eq-eqb, ne-eqb, le-leb, lt-leb}
+use borrow.Author.Tests.{eqb-true, eqb-false, ne-eqb, le-leb, lt-leb}
 use Rattle.lists.specs.Written.{front}
 use Rattle.literals.specs.Words.{rawWidth}
 use Rattle.accept.specs.Palette.{Palette}
 use Rattle.accept.specs.Accepted.{refusal}
+use Rattle.accept.proofs.Accepted.{accepted-of-zero}
 use Rattle.listing.specs.declared.Listed.{Listed}
 use Rattle.listing.specs.Listing.{callList, listNumber, Lists, refusedBy}
+use Rattle.listing.proofs.Length.{list-few}
 
 module _ (w h bd : ℕ) (cache : List ℕ) (p : Palette) (before : List ℕ) where
   abbrev list : List ℕ
@@ -36,3 +40,21 @@ module _ (w h bd : ℕ) (cache : List ℕ) (p : Palette) (before : List ℕ) whe
   unfolding listNumber
   whole e f after count raw a c r =
       record { number = rw e (simp (le-leb (length list) (length before) f)); count = c; width = r; words = a }
+
+  -- a count is never above the longest list
+  pub count-few : (after : List ℕ) (r : Listed) → Lists w h bd cache p before after r → r .count ≤ 4234
+  unfolding listNumber
+  count-few after r l =
+      let fault = refusal w h bd (length cache) p in
+      let accepted : fault ≡ 0 → length list ≤ 4234 = λ e. list-few w h bd cache p (accepted-of-zero w h bd cache p e) in
+      let told : (x y : Bool) → eqb fault 0 ≡ x → r .number ≡ cond x (cond y 0 16) fault → r .number ≡ 0 → length list ≤ 4234 =
+      elim [
+        | true ↦ λ y e n z. accepted (eqb-true fault 0 e)
+        | false ↦ λ y e n z. absurd (eqb-false fault 0 e (sym n ∙ z))
+      ] in
+      let go : (b : Bool) → eqb (r .number) 0 ≡ b → r .count ≡ cond b (length list) 0 → r .count ≤ 4234 =
+      elim [
+        | true ↦ λ e c. omega (arith, told (eqb fault 0) (leb (length list) (length before)) refl (l .number) (eqb-true (r .number) 0 e))
+        | false ↦ λ e c. omega arith
+      ] in
+      go (eqb (r .number) 0) refl (l .count)

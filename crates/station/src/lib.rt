@@ -1,14 +1,89 @@
-// The front door as C functions, for Rust and C to link. A slice is a pointer and a length.
+// The front door as C functions, for Rust and C to link. A slice is a pointer and a length. What a function returns beside
+// its number goes to a small array, which holds zeros after a refusal.
 ghost use mathlib.Core.Path.{_≡_};
+ghost use mathlib.Core.List.{_∷_, []};
 ghost use Rattle.counts.specs.Counts.{blockAllowed};
+ghost use Rattle.context.specs.Context.{contextOf};
 ghost use Rattle.accept.specs.Palette.{paletteOf};
 ghost use Rattle.listing.specs.Listing.{Predicts};
+ghost use Rattle.station.specs.Listed.{ListsTo};
 
 #[no_mangle]
 pub extern "C" fn palette_block_allowed(bw4: usize, bh4: usize) -> bool
     ensures { λ r. ⌜ r ≡ blockAllowed bw4 bh4 ⌝ }
 {
     palette::block_allowed(bw4, bh4)
+}
+
+fn wide(index: u8) -> u32
+    ensures { λ r. ⌜ r ≡ index ⌝ }
+{
+    index as u32
+}
+
+// A context and its order in one array.
+fn in_words(ctx: u32, order: [u8; 8]) -> [u32; 9]
+    ensures { λ r. ⌜ r ≡ ctx ∷ order ⌝ }
+{
+    let mut words = [0u32; 9];
+    words[0] = ctx;
+    let mut i: usize = 0;
+    while i < 8 {
+        words[i + 1] = wide(order[i]);
+        i += 1;
+    }
+    words
+}
+
+#[no_mangle]
+pub extern "C" fn palette_context(
+    map: &[u8],
+    stride: usize,
+    y: usize,
+    x: usize,
+    n: usize,
+    context: &mut [u32; 9],
+) -> u32
+    ensures { λ r. ⌜ r ≡ contextOf (now (map .entry)) stride y x n .number ⌝ }
+    ensures { λ r. ⌜ now (context .exit) ≡ contextOf (now (map .entry)) stride y x n .ctx ∷ contextOf (now (map .entry)) stride y x n .order ⌝ }
+{
+    let found = palette::color_ctx(map, stride, y, x, n);
+    let order = found.order;
+    *context = in_words(found.ctx as u32, order);
+    found.number
+}
+
+#[no_mangle]
+pub extern "C" fn palette_list(
+    width: usize,
+    height: usize,
+    bd: u32,
+    colors: &[u16; 8],
+    n: usize,
+    transposed: bool,
+    map: &[u8],
+    flags: &[u8],
+    cache: &[u16],
+    words: &mut [u32],
+    listed: &mut [u32; 2],
+) -> u32
+    ensures { λ r. ⌜ ListsTo width height bd (now (cache .entry)) (paletteOf (now (colors .entry)) n transposed (now (map .entry)) (now (flags .entry))) (now (words .entry)) (now (words .exit)) (now (listed .exit)) r ⌝ }
+{
+    let eight = *colors;
+    let answer = palette::list(
+        width,
+        height,
+        bd,
+        eight,
+        n,
+        transposed,
+        map,
+        flags,
+        cache,
+        words,
+    );
+    *listed = [answer.count as u32, answer.raw_width];
+    answer.number
 }
 
 #[no_mangle]

@@ -1,13 +1,15 @@
 //! Answers of the original, for cases read or generated.
 
 use palette_oracle::generate::{blocks, caches, contexts, palettes};
+use palette_oracle::replay::{self, Replayed};
 use palette_oracle::text::{answer, parse, Case};
 use palette_oracle::worked;
 use std::io::{self, BufRead, BufWriter, Write};
 use std::process::ExitCode;
 
 const USAGE: &str =
-    "usage: oracle answer | blocks SEED COUNT | lists SEED COUNT | contexts SEED COUNT | worked";
+    "usage: oracle answer | blocks SEED COUNT | lists SEED COUNT | contexts SEED COUNT | worked\n\
+     | replay-input SEED COUNT | replay-output SEED COUNT";
 
 fn main() -> ExitCode {
     let arguments: Vec<String> = std::env::args().skip(1).collect();
@@ -18,6 +20,10 @@ fn main() -> ExitCode {
         ["lists", seed, count] => print_cases(seed, count, list_case),
         ["contexts", seed, count] => print_cases(seed, count, context_case),
         ["worked"] => return print_worked(),
+        ["replay-input", seed, count] => write_replayed(seed, count, |_, r| replay::bytes(r)),
+        ["replay-output", seed, count] => write_replayed(seed, count, |place, r| {
+            format!("{}\n", replay::line(place, r)).into_bytes()
+        }),
         _ => Err(USAGE.to_string()),
     };
     match result {
@@ -55,14 +61,32 @@ fn put(out: &mut impl Write, line: &str) -> Result<(), String> {
 type Named = (Case, String);
 
 fn print_cases(seed: &str, count: &str, case: fn(u64, u64) -> Named) -> Result<(), String> {
-    let seed: u64 = seed.parse().map_err(|e| format!("seed {seed}: {e}"))?;
-    let count: u64 = count.parse().map_err(|e| format!("count {count}: {e}"))?;
+    let (seed, count) = (whole("seed", seed)?, whole("count", count)?);
     let mut out = BufWriter::new(io::stdout().lock());
     for index in 0..count {
         let (case, names) = case(seed, index);
         put(&mut out, &format!("# {index} {names}"))?;
         put(&mut out, &case.to_string())?;
         put(&mut out, &answer(&case))?;
+    }
+    out.flush().map_err(|e| e.to_string())
+}
+
+fn whole(name: &str, text: &str) -> Result<u64, String> {
+    text.parse().map_err(|e| format!("{name} {text}: {e}"))
+}
+
+/// Writes what the crate `replay` reads, or what it must print.
+fn write_replayed(
+    seed: &str,
+    count: &str,
+    form: fn(usize, &Replayed) -> Vec<u8>,
+) -> Result<(), String> {
+    let (seed, count) = (whole("seed", seed)?, whole("count", count)? as usize);
+    let mut out = BufWriter::new(io::stdout().lock());
+    for (before, replayed) in replay::replayed(seed, count).enumerate() {
+        let bytes = form(before + 1, &replayed);
+        out.write_all(&bytes).map_err(|e| e.to_string())?;
     }
     out.flush().map_err(|e| e.to_string())
 }

@@ -27,4 +27,6 @@ pub mod layouts;
 pub mod levels;
 pub mod palettes;
 pub mod random;
+pub mod requests;
 pub mod sides;
+pub mod texts;

@@ -1,0 +1,27 @@
+-- Small arrays filled place by place, and a context's number. Assumes nothing.
+use mathlib.Core.Path.{_≡_, refl, ap, _∙_}
+use mathlib.Core.Bool.{cond}
+use mathlib.Core.List.{List, [], _∷_, _++_, append-nil}
+use Prim.Native.Nat.{ℕ, suc, _≤_, _<_}
+use native.Mathlib.Omega.{arith}
+use lib.ListN.{length, drop, set, drop-of-length-le}
+use Rattle.lists.specs.Written.{written, front}
+use Rattle.lists.proofs.Choice.{either-way}
+use Rattle.lists.proofs.Written.{written-front}
+use Rattle.context.specs.Order.{byThree, around}
+use Rattle.context.specs.Context.{contextOk, answered, refused, contextOf}
+use Rattle.context.specs.declared.Context.{Context}
+use Rattle.context.proofs.Around.{around-ctx}
+
+-- as many words as there are places
+pub filled : (l ws : List ℕ) → length ws ≡ length l → written l 0 ws ≡ ws
+unfolding front
+filled l ws e =
+    written-front l ws (omega arith)
+    ∙ ap (λ (r : List ℕ). ws ++ r) (drop-of-length-le l {i = length ws} (omega arith)) ∙ append-nil ws
+
+pub context-small : (map : List ℕ) (s y x n : ℕ) → contextOf map s y x n .ctx < 5
+unfolding contextOf answered
+context-small map s y x n =
+    either-way (λ (c : Context). c .ctx < 5) (contextOk map s y x n) (answered (around byThree map s y x) n) refused
+    (around-ctx map s y x) (omega arith)
