@@ -119,7 +119,8 @@ fn ranked_word(map: &[u8], w: usize, n: usize, y: usize, x: usize) -> u32
 {
     let around = context::color_ctx(map, w, y, x, n);
     let order = around.order;
-    let rank = context::rank_of(order, n, index_at(map, y * w + x));
+    let index = index_at(map, y * w + x);
+    let rank = context::rank_of(order, n, index);
     literals::call(5, ((n - 2) * 5 + around.ctx) as u32, rank.0 as u32)
 }
 

@@ -1,5 +1,5 @@
--- The histogram of a block: its levels ascend, each is seen, sums and squares are its count times it, and the counts add up to
--- the cells.
+-- The histogram of a block: its levels ascend, each is seen, a sum is a count times its level, a sum of squares a count times
+-- the level's square, and the counts add up to the cells.
 use mathlib.Core.Path.{_≡_, refl, sym, ap, _∙_}
 use mathlib.Core.Bool.{Bool, true, false, cond}
 use mathlib.Core.List.{List, [], _∷_, _++_, append-nil, map, map-append}
@@ -14,12 +14,12 @@ use lib.Ieee.{Float}
 use borrow.Author.Tests.{eqb-true, eqb-false, ltb-true, ltb-false, lt-ltb, le-ltb}
 use Rattle.lists.specs.Counted.{upTo, bit}
 use Rattle.lists.specs.Written.{front}
-use Rattle.lists.proofs.Ascending.{Ascending}
+use Rattle.lists.proofs.Ascending.{Ascending, is-ascending, ascending-at}
 use Rattle.lists.proofs.Written.{written-front}
 use Rattle.samples.specs.Samples.{samplesOk, levelOf}
 use Rattle.samples.proofs.Ranges.{level-in}
 use Rattle.groups.specs.Histogram.{occurs, perLevel, places, levelsOf, histogramOf, sumTo, IsHistogram}
-use Rattle.groups.proofs.Each.{Each, each-at, each-weaken, each-snoc, ascending-snoc, ascending-at}
+use Rattle.groups.proofs.Each.{Each, each-at, each-weaken, each-snoc, ascending-snoc}
 use Rattle.groups.proofs.Levels.{places-length, same-length, none-occurs}
 
 -- ---- the levels
@@ -87,7 +87,8 @@ abbrev zeros : List ℕ
 zeros = replicate 32 0
 
 place-at : (xs : List ℕ) (i : ℕ) → length xs ≤ 32 → getD (places xs) i 0 ≡ getD xs i 0
-place-at xs i h = rw (written-front zeros xs h) (unfold front in (behind xs (drop (length xs) zeros) i (λ k. rest (length xs) k)))
+place-at xs i h =
+    rw (written-front zeros xs h) (unfold front in (behind xs (drop (length xs) zeros) i (λ k. rest (length xs) k)))
   where
     -- zeros behind
     behind : (xs ys : List ℕ) (i : ℕ) → ((k : ℕ) → getD ys k 0 ≡ 0) → getD (xs ++ ys) i 0 ≡ getD xs i 0
@@ -191,8 +192,18 @@ cells-of bd samples d f e =
     record { few = omega arith; small = omega arith; below = (λ i l. level-in bd samples d e i (omega arith)) }
 
 module _ (top : ℕ) (xs : List ℕ) (c : Cells top xs) where
-  under : (i : ℕ) → i < length xs → getD xs i 0 < suc top
-  under i l = omega (arith, c .below i l)
+  -- what is kept of each level of the block, and its place
+  abbrev kept : (ℕ → ℕ) → List ℕ
+  kept f = perLevel (occurs xs) 4096 f
+
+  kept-length : (f : ℕ → ℕ) → length (kept f) ≡ length (levelsOf xs)
+  kept-length f = same-length (occurs xs) f (λ v. v) 4096
+
+  level-seen : (i : ℕ) → i < length (levelsOf xs) → Seen (occurs xs) 4096 (getD (levelsOf xs) i 0)
+  level-seen i l = each-at (Seen (occurs xs) 4096) (levelsOf xs) (seen (occurs xs) 4096 .0) i l
+
+  all-cells : total (occurs xs) 4096 ≡ length xs
+  all-cells = cells-total xs 4096 (λ i l. omega (arith, c .below i l, c .small))
 
   -- no level is above the top
   pub level-top : (i : ℕ) → getD (levelsOf xs) i 0 ≤ top
@@ -201,50 +212,48 @@ module _ (top : ℕ) (xs : List ℕ) (c : Cells top xs) where
       go : (t : Bool) → ltb i (length (levelsOf xs)) ≡ t → getD (levelsOf xs) i 0 ≤ top
       go false h = rw (kept-past (occurs xs) (λ v. v) 4096 i (ltb-false i (length (levelsOf xs)) h)) zero-le
       go true h =
-          let s = each-at (Seen (occurs xs) 4096) (levelsOf xs) (seen (occurs xs) 4096 .0) i (ltb-true i (length (levelsOf xs)) h) in
-          not-above top (getD (levelsOf xs) i 0) (λ l. s .1 (none-occurs xs (suc top) (getD (levelsOf xs) i 0) under l))
-
-  -- the counts add up to the cells
-  pub counts-add-up : histogramOf xs .n ≤ 32 → sumTo (histogramOf xs .w) 32 ≡ length xs
-  unfolding histogramOf
-  counts-add-up h =
-      let n = same-length (occurs xs) (occurs xs) (λ v. v) 4096 in
-      let ws = perLevel (occurs xs) 4096 (occurs xs) in
-      sum-same (places ws) ws 32 (λ i. place-at ws i (omega arith))
-      ∙ counts-total (occurs xs) 4096 32 (omega arith)
-      ∙ cells-total xs 4096 (λ i l. omega (arith, c .below i l, c .small))
-
-  pub histogram-is : histogramOf xs .n ≤ 32 → IsHistogram (levelsOf xs) (histogramOf xs)
-  unfolding histogramOf
-  histogram-is h = record {
-    few = h;
-    full = (places-length _, places-length _, places-length _);
-    top = (λ i. le-trans (level-top i) (c .small));
-    rising = (λ i l. ascending-at (levelsOf xs) (seen (occurs xs) 4096 .1) i l);
-    seen = (λ i l. rw (w i, kept-at (occurs xs) (occurs xs) 4096 i l) (some (occurs xs (getD (levelsOf xs) i 0)) (each-at (Seen (occurs xs) 4096) (levelsOf xs) (seen (occurs xs) 4096 .0) i l .1)));
-    sums = (λ i. rw (w i, at (λ v. occurs xs v * v) i) (kept-times (occurs xs) (λ v. occurs xs v * v) (λ v. v) 4096 i (λ v. refl)));
-    squares = (λ i. rw (w i, at (λ v. occurs xs v * (v * v)) i) (kept-times (occurs xs) (λ v. occurs xs v * (v * v)) (λ v. v * v) 4096 i (λ v. refl)));
-    cells = le-trans (le-of-eq (counts-add-up h)) (c .few);
-  }
-    where
-      at : (f : ℕ → ℕ) (i : ℕ) → getD (places (perLevel (occurs xs) 4096 f)) i 0 ≡ getD (perLevel (occurs xs) 4096 f) i 0
-      at f i = place-at (perLevel (occurs xs) 4096 f) i (le-trans (le-of-eq (same-length (occurs xs) f (λ v. v) 4096)) h)
-
-      w : (i : ℕ) → getD (places (perLevel (occurs xs) 4096 (occurs xs))) i 0 ≡ getD (perLevel (occurs xs) 4096 (occurs xs)) i 0
-      w i = at (occurs xs) i
-
-      some : (n : ℕ) → (n ≡ 0 → ⊥) → 1 ≤ n
-      some n f = omega arith
+          not-above top (getD (levelsOf xs) i 0)
+          (λ l. level-seen i (ltb-true i (length (levelsOf xs)) h) .1
+          (none-occurs xs (suc top) (getD (levelsOf xs) i 0) (λ i k. omega (arith, c .below i k)) l))
 
   -- a block with a cell has a level
   pub some-level : 0 < length xs → 0 < histogramOf xs .n
-  unfolding histogramOf
+  unfolding histogramOf sumTo
   some-level h =
-      let n = same-length (occurs xs) (occurs xs) (λ v. v) 4096 in
       let none : length (levelsOf xs) ≡ 0 → ⊥ = λ e.
-      let k : length (perLevel (occurs xs) 4096 (occurs xs)) ≤ 0 = omega arith in
-      omega (arith, counts-total (occurs xs) 4096 0 k, cells-total xs 4096 (λ i l. omega (arith, c .below i l, c .small)), sum-zero (perLevel (occurs xs) 4096 (occurs xs))) in
+      let k : length (kept (occurs xs)) ≤ 0 = omega (arith, kept-length (occurs xs)) in
+      omega (arith, counts-total (occurs xs) 4096 0 k, all-cells) in
       omega arith
-    where
-      sum-zero : (ws : List ℕ) → sumTo ws 0 ≡ 0
-      sum-zero ws = unfold sumTo in refl
+
+  module _ (few : histogramOf xs .n ≤ 32) where
+    placed : (f : ℕ → ℕ) (i : ℕ) → getD (places (kept f)) i 0 ≡ getD (kept f) i 0
+    unfolding histogramOf
+    placed f i = place-at (kept f) i (rw (kept-length f) few)
+
+    times : (f g : ℕ → ℕ) → ((v : ℕ) → f v ≡ occurs xs v * g v) → (i : ℕ)
+        → getD (places (kept f)) i 0 ≡ getD (places (kept (occurs xs))) i 0 * g (getD (levelsOf xs) i 0)
+    times f g e i = rw (placed f i, placed (occurs xs) i) (kept-times (occurs xs) f g 4096 i e)
+
+    -- the counts add up to the cells
+    pub counts-add-up : sumTo (histogramOf xs .w) 32 ≡ length xs
+    unfolding histogramOf
+    counts-add-up =
+        let l : length (kept (occurs xs)) ≤ 32 = rw (kept-length (occurs xs)) few in
+        sum-same (places (kept (occurs xs))) (kept (occurs xs)) 32 (placed (occurs xs))
+        ∙ counts-total (occurs xs) 4096 32 l ∙ all-cells
+
+    pub histogram-is : IsHistogram (levelsOf xs) (histogramOf xs)
+    unfolding histogramOf
+    histogram-is = record {
+      few = few;
+      full = (places-length _, places-length _, places-length _);
+      top = (λ i. le-trans (level-top i) (c .small));
+      rising = ascending-at (levelsOf xs) (is-ascending (levelsOf xs) (seen (occurs xs) 4096 .1));
+      seen = (λ i l. rw (placed (occurs xs) i, kept-at (occurs xs) (occurs xs) 4096 i l) (some _ (level-seen i l .1)));
+      sums = times (λ v. occurs xs v * v) (λ v. v) (λ v. refl);
+      squares = times (λ v. occurs xs v * (v * v)) (λ v. v * v) (λ v. refl);
+      cells = le-trans (le-of-eq counts-add-up) (c .few);
+    }
+      where
+        some : (n : ℕ) → (n ≡ 0 → ⊥) → 1 ≤ n
+        some n f = omega arith

@@ -7,51 +7,46 @@ use native.Mathlib.Nat.{zero-add, add-zero, le-refl, lt-of-lt-of-le, le-of-suc-l
 use native.Mathlib.Numerals.{add-one}
 use native.Mathlib.Omega.{arith}
 use lib.Dec.{leb}
-use borrow.Author.Tests.{le-leb}
-use lib.ListN.{length, getD, set, length-append}
+use lib.ListN.{length, getD, set, length-append, take, replicate}
 use lib.Seq.{set-comm}
 use lib.Ieee.{Float, nan, inf, fin, binary64, add, lt}
-use Rattle.lists.specs.Written.{written}
+use borrow.Author.Tests.{le-leb}
+use Rattle.lists.specs.Written.{written, front}
+use Rattle.lists.proofs.Written.{written-take}
 use Rattle.lists.specs.Counted.{ascending, allIn}
 use Rattle.lists.proofs.Ascending.{Ascending, is-ascending}
 use Rattle.groups.specs.declared.Best.{Best}
 use Rattle.groups.specs.declared.Histogram.{Histogram}
 use Rattle.groups.specs.Histogram.{IsHistogram}
-use Rattle.groups.specs.Groups.{costOf, cheaper, firstOf, costIn, cutIn, chosen, IsCut, prefixOf, colorOf, colorsOf, cutOf, centersOf}
+use Rattle.groups.specs.Groups.{prefixOf, costOf, cheaper, firstOf, costIn, cutIn, chosen, IsCut}
+use Rattle.groups.specs.Groups.{colorOf, colorsOf, cutTo, cutOf, centersOf, groupsOf}
+use Rattle.groups.specs.Tables.{CutsOf}
 use Rattle.groups.proofs.Each.{Each, each-weaken, each-snoc, each-all, ascending-snoc}
 use Rattle.groups.proofs.Means.{levels-rise, color-from, color-to}
 
 -- ---- where a cut lies
+-- what holds of both cuts holds of the cheaper
+cheaper-cut : (P : ℕ → Type 0) (b : Best) (c : Float) (i : ℕ) → P (b .cut) → P i → P (cheaper b c i .cut)
+cheaper-cut P b c i p q = go (lt c (b .cost))
+  where
+    go : (t : Bool) → P (cond {A = Best} t (record { cost = c; cut = i }) b .cut)
+    go true = q
+    go false = p
+
 module _ (pw ps pq : List Float) where
   first-from : (row : ℕ → Float) (k j m : ℕ) → k ≤ firstOf pw ps pq row k j m .cut
   unfolding firstOf
   first-from row k j zero = le-refl k
   first-from row k j (suc m) =
-      go (firstOf pw ps pq row k j m) (first-from row k j m) (add binary64 (row (k + m)) (costOf pw ps pq (k + m) j))
-    where
-      go : (b : Best) → k ≤ b .cut → (c : Float) → k ≤ cheaper b c (k + m) .cut
-      go b h c = test (lt c (b .cost))
-        where
-          test : (t : Bool) → k ≤ cond {A = Best} t (record { cost = c; cut = k + m }) b .cut
-          test true = omega arith
-          test false = h
+      cheaper-cut (λ i. k ≤ i) (firstOf pw ps pq row k j m) _ (k + m) (first-from row k j m) (omega arith)
 
   first-to : (row : ℕ → Float) (k j m : ℕ) → firstOf pw ps pq row k j (suc m) .cut < k + suc m
   unfolding firstOf
-  first-to row k j zero = go (lt (add binary64 (row (k + 0)) (costOf pw ps pq (k + 0) j)) (inf false))
-    where
-      go : (t : Bool) → cond {A = Best} t (record { cost = add binary64 (row (k + 0)) (costOf pw ps pq (k + 0) j); cut = k + 0 }) (record { cost = inf false; cut = k }) .cut < k + 1
-      go true = omega arith
-      go false = omega arith
+  first-to row k j zero =
+      cheaper-cut (λ i. i < k + 1) (record { cost = inf false; cut = k }) _ (k + 0) (omega arith) (omega arith)
   first-to row k j (suc m) =
-      go (firstOf pw ps pq row k j (suc m)) (first-to row k j m) (add binary64 (row (k + suc m)) (costOf pw ps pq (k + suc m) j))
-    where
-      go : (b : Best) → b .cut < k + suc m → (c : Float) → cheaper b c (k + suc m) .cut < k + suc (suc m)
-      go b h c = test (lt c (b .cost))
-        where
-          test : (t : Bool) → cond {A = Best} t (record { cost = c; cut = k + suc m }) b .cut < k + suc (suc m)
-          test true = omega arith
-          test false = omega arith
+      let l = first-to row k j m in
+      cheaper-cut (λ i. i < k + suc (suc m)) (firstOf pw ps pq row k j (suc m)) _ (k + suc m) (omega arith) (omega arith)
 
   -- the last of k + 1 groups of the first j levels starts where k levels are left, and before the end
   pub cut-from : (k j : ℕ) → k ≤ cutIn pw ps pq k j
@@ -80,11 +75,7 @@ module _ (pw ps pq : List Float) where
   first-zero : (j m : ℕ) → firstOf pw ps pq (costIn pw ps pq 0) 0 j m .cut ≡ 0
   unfolding firstOf
   first-zero j zero = refl
-  first-zero j (suc zero) = go (lt (add binary64 (costIn pw ps pq 0 (0 + 0)) (costOf pw ps pq (0 + 0) j)) (inf false))
-    where
-      go : (t : Bool) → cond {A = Best} t (record { cost = add binary64 (costIn pw ps pq 0 (0 + 0)) (costOf pw ps pq (0 + 0) j); cut = 0 + 0 }) (record { cost = inf false; cut = 0 }) .cut ≡ 0
-      go true = refl
-      go false = refl
+  first-zero j (suc zero) = cheaper-cut (λ i. i ≡ 0) (record { cost = inf false; cut = 0 }) _ (0 + 0) refl refl
   first-zero j (suc (suc m)) =
       let b = firstOf pw ps pq (costIn pw ps pq 0) 0 j (suc m) in
       let e : lt (add binary64 (costIn pw ps pq 0 (0 + suc m)) (costOf pw ps pq (0 + suc m) j)) (b .cost) ≡ false =
@@ -104,20 +95,18 @@ unfoldable pub traced : List ℕ → ℕ → ℕ → List ℕ
 traced cuts zero j = []
 traced cuts (suc k) j = getD cuts (k * 33 + 33 + j) 0 ∷ traced cuts k (getD cuts (k * 33 + 33 + j) 0)
 
-abbrev pub CutsOf : List Float → List Float → List Float → ℕ → ℕ → List ℕ → Type 0
-CutsOf pw ps pq n K cuts = (k j : ℕ) → suc k ≤ K → j ≤ n → getD cuts (k * 33 + 33 + j) 0 ≡ cutIn pw ps pq k j
-
-pub traced-is : (pw ps pq : List Float) (n K : ℕ) (cuts : List ℕ) → CutsOf pw ps pq n K cuts → (k j : ℕ) → k ≤ K → k ≤ j → j ≤ n
-    → traced cuts k j ≡ chosen pw ps pq k j
+pub traced-is : (h : Histogram) (K : ℕ) (cuts : List ℕ) → CutsOf h K cuts → (k j : ℕ) → k ≤ K → k ≤ j → j ≤ h .n
+    → traced cuts k j ≡ chosen (prefixOf (h .w)) (prefixOf (h .s)) (prefixOf (h .q)) k j
 unfolding traced chosen
-traced-is pw ps pq n K cuts t zero j a b d = refl
-traced-is pw ps pq n K cuts t (suc k) j a b d =
-    rw (t k j a d) (ap (λ l. cutIn pw ps pq k j ∷ l)
-    (traced-is pw ps pq n K cuts t k (cutIn pw ps pq k j) (omega arith) (cut-from pw ps pq k j)
-    (omega (arith, cut-to pw ps pq k j b))))
+traced-is h K cuts t zero j a b d = refl
+traced-is h K cuts t (suc k) j a b d =
+    let l = cut-to (prefixOf (h .w)) (prefixOf (h .s)) (prefixOf (h .q)) k j b in
+    rw (t k j a d) (ap (λ z. cutTo h k j ∷ z) (traced-is h K cuts t k (cutTo h k j) (omega arith)
+    (cut-from (prefixOf (h .w)) (prefixOf (h .s)) (prefixOf (h .q)) k j) (omega (arith, l))))
 
 -- ---- writing from the last place back
-pub written-last : (l : List ℕ) (at : ℕ) (xs : List ℕ) (y : ℕ) → written (set l (at + length xs) y) at xs ≡ written l at (xs ++ (y ∷ []))
+written-last : (l : List ℕ) (at : ℕ) (xs : List ℕ) (y : ℕ)
+    → written (set l (at + length xs) y) at xs ≡ written l at (xs ++ (y ∷ []))
 unfolding written
 written-last l at [] y = rw add-zero refl
 written-last l at (x ∷ xs) y =
@@ -132,7 +121,8 @@ traced-length cuts (suc k) j = ap suc (traced-length cuts k (getD cuts (k * 33 +
 pub colors-length : (w s : List ℕ) (j : ℕ) (c : List ℕ) → length (colorsOf w s j c) ≡ length c
 unfolding colorsOf
 colors-length w s j [] = refl
-colors-length w s j (i ∷ c) = length-append (colorsOf w s i c) (colorOf w s i j ∷ []) ∙ add-one _ ∙ ap suc (colors-length w s i c)
+colors-length w s j (i ∷ c) =
+    length-append (colorsOf w s i c) (colorOf w s i j ∷ []) ∙ add-one _ ∙ ap suc (colors-length w s i c)
 
 -- one group more from the back
 pub placed : (w s cuts l : List ℕ) (g j i y : ℕ) → i ≡ getD cuts (g * 33 + 33 + j) 0 → y ≡ colorOf w s i j
@@ -189,3 +179,8 @@ module _ (v : List ℕ) (h : Histogram) (is : IsHistogram v h) where
         each-all (λ x. leb x top) (centersOf h k)
         (each-weaken (λ x. x < suc top) (λ x. leb x top ≡ true) (centersOf h k) (λ x l. le-leb x top (le-of-suc-le-suc l))
         (rise k (h .n) (cutOf h k) cut (le-refl (h .n)) .1 (suc top) (λ t l. omega (arith, f t))))
+
+    -- the colours that the code hands over are these, then zeros
+    pub colors-take : k ≤ 8 → take k (groupsOf h k .colors) ≡ centersOf h k
+    colors-take l =
+        rw centers-length at (written-take (replicate 8 0) (centersOf h k) (omega (arith, centers-length)))

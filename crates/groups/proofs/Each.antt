@@ -40,12 +40,3 @@ above-snoc c (x ∷ xs) y a h e = (a .0, above-snoc x xs y (a .1) (e .0) (e .1))
 pub ascending-snoc : (xs : List ℕ) (y : ℕ) → Ascending xs → Each (λ x. x < y) xs → Ascending (xs ++ (y ∷ []))
 ascending-snoc [] y a e = tt
 ascending-snoc (x ∷ xs) y a e = above-snoc x xs y a (e .0) (e .1)
-
-above-at : (c : ℕ) (xs : List ℕ) → Above c xs → (i : ℕ) → i < length xs → getD (c ∷ xs) i 0 < getD xs i 0
-above-at c [] a i h = absurd (omega arith)
-above-at c (x ∷ xs) a zero h = a .0
-above-at c (x ∷ xs) a (suc i) h = above-at x xs (a .1) i (omega arith)
-
-pub ascending-at : (xs : List ℕ) → Ascending xs → (i : ℕ) → suc i < length xs → getD xs i 0 < getD xs (suc i) 0
-ascending-at [] a i h = absurd (omega arith)
-ascending-at (x ∷ xs) a i h = above-at x xs a i (omega arith)

@@ -23,10 +23,12 @@ pub record Prefixes (h : Histogram) : Type 0 where
   pub squares : (k : ℕ) → k ≤ 32 → getD (prefixOf (h .q)) k nan ≡ nat binary64 (sumTo (h .q) k)
 
 -- the difference of two of them is exact too
-difference : (p : List Float) (xs : List ℕ) (i j : ℕ) → ((k : ℕ) → k ≤ 32 → getD p k nan ≡ nat binary64 (sumTo xs k)) → i ≤ j → j ≤ 32
-    → sumTo xs j ≤ 2 ^ 53 → between p i j ≡ nat binary64 (sumIn xs i j)
+difference : (p : List Float) (xs : List ℕ) (i j : ℕ)
+    → ((k : ℕ) → k ≤ 32 → getD p k nan ≡ nat binary64 (sumTo xs k)) → i ≤ j → j ≤ 32 → sumTo xs j ≤ 2 ^ 53
+    → between p i j ≡ nat binary64 (sumIn xs i j)
 difference p xs i j e o l b =
-    rw (e i (omega arith), e j l) (nat-sub binary64 (sumTo xs j) (sumTo xs i) b (le-trans (sum-mono xs i j o) b) (sum-mono xs i j o))
+    let m = sum-mono xs i j o in
+    rw (e i (omega arith), e j l) (nat-sub binary64 (sumTo xs j) (sumTo xs i) b (le-trans m b) m)
 
 module _ (v : List ℕ) (h : Histogram) (is : IsHistogram v h) where
   sum-small : (k : ℕ) → k ≤ 32 → sumTo (h .s) k ≤ 4095 * 4096
@@ -45,7 +47,8 @@ module _ (v : List ℕ) (h : Histogram) (is : IsHistogram v h) where
   -- q - s * s / w, where only the quotient and the difference are rounded
   pub cost-rounded : (i j : ℕ) → i < j → j ≤ h .n
       → costOf (prefixOf (h .w)) (prefixOf (h .s)) (prefixOf (h .q)) i j
-      ≡ sub binary64 (nat binary64 (sumIn (h .q) i j)) (round binary64 false (sumIn (h .s) i j * sumIn (h .s) i j) (sumIn (h .w) i j))
+      ≡ sub binary64 (nat binary64 (sumIn (h .q) i j))
+      (round binary64 false (sumIn (h .s) i j * sumIn (h .s) i j) (sumIn (h .w) i j))
   cost-rounded i j o l =
       let b : j ≤ 32 = le-trans l (is .few) in
       let o' : i ≤ j = omega arith in
@@ -57,5 +60,6 @@ module _ (v : List ℕ) (h : Histogram) (is : IsHistogram v h) where
         difference (prefixOf (h .s)) (h .s) i j (prefixes .sums) o' b (le-trans (sum-small j b) (lit≤ tt)),
         difference (prefixOf (h .q)) (h .q) i j (prefixes .squares) o' b (le-trans (square-small j b) (lit≤ tt)),
         nat-mul binary64 (sumIn (h .s) i j) (sumIn (h .s) i j) s s,
-        nat-div binary64 (sumIn (h .s) i j * sumIn (h .s) i j) (sumIn (h .w) i j) (le-trans (mul-le-mul S S) (lit≤ tt)) (le-trans W (lit≤ tt)) (weight v h is i j o l),
+        nat-div binary64 (sumIn (h .s) i j * sumIn (h .s) i j) (sumIn (h .w) i j) (le-trans (mul-le-mul S S) (lit≤ tt))
+            (le-trans W (lit≤ tt)) (weight v h is i j o l),
       ) refl

@@ -3,8 +3,8 @@ use mathlib.Core.Path.{_≡_, refl, sym, ap, _∙_}
 use mathlib.Core.Bool.{Bool, true, false, cond}
 use mathlib.Core.List.{List, [], _∷_, _++_, append-nil}
 use Prim.Native.Nat.{ℕ, zero, suc, _+_, _-_, _*_, _≤_, _<_}
-use native.Mathlib.Nat.{zero-add, add-zero, add-suc}
 use Prim.Native.Nat.{zero-le}
+use native.Mathlib.Nat.{zero-add, add-zero, add-suc}
 use native.Mathlib.Numerals.{add-one}
 use native.Mathlib.Omega.{arith}
 use lib.Dec.{eqb}
@@ -14,6 +14,7 @@ use borrow.Author.Tests.{eq-eqb, ne-eqb, eqb-true, eqb-false}
 use Rattle.lists.specs.Counted.{upTo, bit}
 use Rattle.lists.specs.Written.{written}
 use Rattle.lists.proofs.Written.{written-more, length-written}
+use Rattle.groups.specs.declared.Histogram.{Histogram}
 use Rattle.groups.specs.Histogram.{occurs, perLevel, places, gathered}
 
 -- ---- counting
@@ -55,16 +56,40 @@ module _ (count : ℕ → ℕ) where
   none-more f v e = rw (add-one, upTo, eq-eqb (count v) 0 e) (append-nil _)
 
   -- a level that does
-  pub one-more : (f : ℕ → ℕ) (v : ℕ) → (count v ≡ 0 → ⊥) → perLevel count (v + 1) f ≡ perLevel count v f ++ (f v ∷ [])
+  one-more : (f : ℕ → ℕ) (v : ℕ) → (count v ≡ 0 → ⊥) → perLevel count (v + 1) f ≡ perLevel count v f ++ (f v ∷ [])
   unfolding upTo
   one-more f v e = rw (add-one, upTo, ne-eqb (count v) 0 e) refl
 
-  pub placed : (f : ℕ → ℕ) (n v : ℕ) → n ≡ length (perLevel count v (λ l. l)) → (count v ≡ 0 → ⊥)
-      → set (places (perLevel count v f)) n (f v) ≡ places (perLevel count (v + 1) f)
+  -- ... is stored behind the others
+  placed : (f : ℕ → ℕ) (n v : ℕ) (old : List ℕ) → n ≡ length (perLevel count v (λ l. l)) → (count v ≡ 0 → ⊥)
+      → old ≡ places (perLevel count v f) → set old n (f v) ≡ places (perLevel count (v + 1) f)
   unfolding written
-  placed f n v e h =
+  placed f n v old e h p =
       let a : n ≡ 0 + length (perLevel count v f) = e ∙ same-length (λ l. l) f v ∙ sym (zero-add _) in
-      rw a (rw (ne-eqb (count v) 0 h) at (written-more (λ l. cond (eqb (count l) 0) [] (f l ∷ [])) (replicate 32 0) 0 v))
+      rw (p, a)
+      (rw (ne-eqb (count v) 0 h) at (written-more (λ l. cond (eqb (count l) 0) [] (f l ∷ [])) (replicate 32 0) 0 v))
+
+  pub no-level : (v : ℕ) → count v ≡ 0 → gathered count (v + 1) ≡ gathered count v
+  no-level v e =
+      cc (
+        none-more (λ l. l) v e,
+        none-more count v e,
+        none-more (λ l. count l * l) v e,
+        none-more (λ l. count l * (l * l)) v e,
+      )
+
+  pub one-level : (v : ℕ) (old : Histogram) (n : ℕ) (w s q : List ℕ) → old ≡ gathered count v → (count v ≡ 0 → ⊥)
+      → n ≡ old .n + 1 → w ≡ set (old .w) (old .n) (count v) → s ≡ set (old .s) (old .n) (count v * v)
+      → q ≡ set (old .q) (old .n) (count v * (v * v)) → record { n = n; w = w; s = s; q = q } ≡ gathered count (v + 1)
+  one-level v old n w s q e h n-is w-is s-is q-is =
+      let m : old .n ≡ length (perLevel count v (λ l. l)) = ap (λ z. z .n) e in
+      let n' : n ≡ length (perLevel count (v + 1) (λ l. l)) =
+      n-is ∙ ap (λ z. z + 1) m
+      ∙ sym (ap length (one-more (λ l. l) v h) ∙ length-append (perLevel count v (λ l. l)) (v ∷ [])) in
+      let w' = w-is ∙ placed count (old .n) v (old .w) m h (ap (λ z. z .w) e) in
+      let s' = s-is ∙ placed (λ l. count l * l) (old .n) v (old .s) m h (ap (λ z. z .s) e) in
+      let q' = q-is ∙ placed (λ l. count l * (l * l)) (old .n) v (old .q) m h (ap (λ z. z .q) e) in
+      cc (n', w', s', q')
 
 -- ---- counts that agree, over a range that holds all that occur
 agree : (f g a b : ℕ → ℕ) (m : ℕ) → ((v : ℕ) → v < m → (f v ≡ g v) × (a v ≡ b v)) → perLevel f m a ≡ perLevel g m b

@@ -6,3 +6,4 @@ pub mod Means
 pub mod Exact
 pub mod Colors
 pub mod Block
+pub mod Examples

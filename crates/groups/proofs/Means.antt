@@ -1,9 +1,11 @@
--- The sums of a group of levels: between the number of cells times its least and its greatest level, so the colour lies within.
+-- A group of levels: its sum lies between its count times its least and its greatest level, so its colour lies within.
 use mathlib.Core.Path.{_≡_}
-use mathlib.Core.List.{List}
 use mathlib.Core.Logic.{⊎-elim}
+use mathlib.Core.List.{List}
 use Prim.Native.Nat.{ℕ, zero, suc, _+_, _-_, _*_, _^_, _≤_, _<_, zero-le}
-use native.Mathlib.Nat.{add-zero, add-suc, le-trans, le-of-lt, mul-le-mul-left, mul-le-mul, mul-pos, zero-lt-suc, le-div-iff-mul-le, eq-or-lt-of-le, le-of-suc-le-suc}
+use native.Mathlib.Nat.{add-zero, add-suc, le-trans, le-of-lt, eq-or-lt-of-le, le-of-suc-le-suc}
+use native.Mathlib.Nat.{mul-le-mul-left, mul-le-mul, mul-pos, zero-lt-suc, le-div-iff-mul-le}
+use native.Mathlib.Numerals.{add-one}
 use native.Mathlib.Omega.{arith}
 use lib.Dec.{lit≤}
 use lib.ListN.{getD}
@@ -36,7 +38,8 @@ module _ (v : List ℕ) (h : Histogram) (is : IsHistogram v h) where
   levels-rise i zero a b = absurd (omega arith)
   levels-rise i (suc t) a b =
       let less : i < t → getD v i 0 < getD v t 0 = λ l. levels-rise i t l (omega arith) in
-      ⊎-elim (λ e. rw e (is .rising t b)) (λ l. omega (arith, less l, is .rising t b)) (eq-or-lt-of-le (le-of-suc-le-suc a))
+      let next : getD v t 0 < getD v (suc t) 0 = rw add-one at (is .rising t (omega arith)) in
+      ⊎-elim (λ e. rw e next) (λ l. omega (arith, less l)) (eq-or-lt-of-le (le-of-suc-le-suc a))
 
   -- no level is seen without a cell
   module _ (i j : ℕ) (order : i < j) (last : j ≤ h .n) where

@@ -4,7 +4,7 @@ use mathlib.Core.Logic.{_⊎_, inl, inr}
 use mathlib.Core.Bool.{false}
 use mathlib.Core.List.{List}
 use Prim.Native.Nat.{ℕ, zero, suc, _+_, _-_, _*_, _≤_, _<_}
-use native.Mathlib.Nat.{zero-add, suc-mul, eq-or-lt-of-le}
+use native.Mathlib.Nat.{le-trans, zero-add, suc-mul, eq-or-lt-of-le}
 use native.Mathlib.Numerals.{add-one}
 use native.Mathlib.Omega.{arith}
 use lib.ListN.{length, getD, set, replicate, length-set, getD-replicate}
@@ -39,13 +39,15 @@ module _ (pw ps pq : List Float) where
   }
 
   module _ (k j : ℕ) (cost₀ cost : List Float) (cut₀ cut : List ℕ) (b : Best) (f : Filled pw ps pq k j cost₀ cost cut₀ cut)
-      (is : b ≡ bestOf pw ps pq (rowAt cost (k * 33)) k j) (in-cost : k * 33 + 33 + j < length cost) (in-cut : k * 33 + 33 + j < length cut)
+      (is : b ≡ bestOf pw ps pq (rowAt cost (k * 33)) k j)
+      (in-cost : k * 33 + 33 + j < length cost) (in-cut : k * 33 + 33 + j < length cut)
       (before : j < 33) where
     -- row k stands as it did
     same : b ≡ bestOf pw ps pq (rowAt cost₀ (k * 33)) k j
     same = is ∙ best-same (rowAt cost (k * 33)) (rowAt cost₀ (k * 33)) k j (λ i h. f .kept (k * 33 + i) (omega arith))
 
-    pub more : Filled pw ps pq k (j + 1) cost₀ (set cost (k * 33 + 33 + j) (b .cost)) cut₀ (set cut (k * 33 + 33 + j) (b .cut))
+    pub more : Filled pw ps pq k (j + 1)
+        cost₀ (set cost (k * 33 + 33 + j) (b .cost)) cut₀ (set cut (k * 33 + 33 + j) (b .cut))
     more =
         let at = k * 33 + 33 + j in
         let row = rowAt cost₀ (k * 33) in
@@ -75,6 +77,12 @@ module _ (pw ps pq : List Float) where
       at : (j : ℕ) → j < 297 → getD (set (replicate 297 (inf false)) 0 (ofBits binary64 0)) j nan ≡ costIn pw ps pq 0 j
       at zero g = refl
       at (suc j) g = getD-replicate 296 j (inf false) nan (omega arith)
+
+  -- up to a lesser row
+  pub fewer-rows : (n K k : ℕ) (cost : List Float) (cut : List ℕ) → k ≤ K → Tabled pw ps pq n K cost cut
+      → Tabled pw ps pq n k cost cut
+  fewer-rows n K k cost cut h t =
+      record { costs = (λ r j l g. t .costs r j (le-trans l h) g); cuts = (λ r j l g. t .cuts r j (le-trans l h) g) }
 
   -- one row more
   module _ (n k : ℕ) (cost cost' : List Float) (cut cut' : List ℕ) (small : n ≤ 32)

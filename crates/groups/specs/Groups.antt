@@ -1,18 +1,18 @@
--- The cut of the levels into groups: a dynamic programme on f64 values, operations in the Rust's order; and the groups' colours.
+-- The cut of the levels into groups: a dynamic programme on f64 values, operations in the Rust's order. The groups' colours.
 use mathlib.Core.Path.{_≡_}
 use mathlib.Core.Bool.{false, cond}
 use mathlib.Core.List.{List, [], _∷_, _++_}
 use Prim.Native.Nat.{ℕ, zero, suc, _+_, _-_, _*_, _/_, _<_}
 use lib.ListN.{getD, replicate}
 use lib.Ieee.{Float, inf, nan, binary64, add, sub, mul, div, lt, ofBits}
-use Rattle.ieee.specs.Numbers.{nat}
 use Rattle.lists.specs.Written.{written}
+use Rattle.ieee.specs.Numbers.{nat}
 use Rattle.groups.specs.declared.Best.{Best}
 use Rattle.groups.specs.declared.Groups.{Groups}
 use Rattle.groups.specs.declared.Histogram.{Histogram}
 use Rattle.groups.specs.Histogram.{sumTo}
 
--- ---- the cost of a group
+-- ---- the cost of a group: the levels i .. j are those from i on and before j
 -- the sums of the first 0, 1, .. numbers, added up in f64
 unfoldable pub sumsFrom : Float → List ℕ → List Float
 sumsFrom t [] = t ∷ []
@@ -37,7 +37,7 @@ abbrev pub cheaper : Best → Float → ℕ → Best
 cheaper b c i = cond (lt c (b .cost)) (record { cost = c; cut = i }) b
 
 module _ (pw ps pq : List Float) where
-  -- the first j levels, where the last group starts at one of k, k + 1, .., m of them; row has the costs of what is left
+  -- the first j levels: of the m cuts k, k + 1, .. the first of the cheapest; row has the cost of the levels before a cut
   unfoldable pub firstOf : (ℕ → Float) → ℕ → ℕ → ℕ → Best
   firstOf row k j zero = record { cost = inf false; cut = k }
   firstOf row k j (suc m) =

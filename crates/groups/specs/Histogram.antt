@@ -1,7 +1,7 @@
 -- The histogram: per level that occurs its count w, sum s and sum of squares q.
-use mathlib.Core.List.{List, [], _∷_}
-use mathlib.Core.Bool.{cond}
 use mathlib.Core.Path.{_≡_}
+use mathlib.Core.Bool.{cond}
+use mathlib.Core.List.{List, [], _∷_}
 use Prim.Native.Nat.{ℕ, zero, suc, _+_, _*_, _≤_, _<_}
 use lib.Dec.{eqb}
 use lib.ListN.{length, getD, replicate}
@@ -49,7 +49,7 @@ pub record IsHistogram (v : List ℕ) (h : Histogram) : Type 0 where
   pub few : h .n ≤ 32
   pub full : (length (h .w) ≡ 32) × (length (h .s) ≡ 32) × (length (h .q) ≡ 32)
   pub top : (i : ℕ) → getD v i 0 ≤ 4095
-  pub rising : (i : ℕ) → suc i < h .n → getD v i 0 < getD v (suc i) 0
+  pub rising : (i : ℕ) → i + 1 < h .n → getD v i 0 < getD v (i + 1) 0
   pub seen : (i : ℕ) → i < h .n → 1 ≤ getD (h .w) i 0
   pub sums : (i : ℕ) → getD (h .s) i 0 ≡ getD (h .w) i 0 * getD v i 0
   pub squares : (i : ℕ) → getD (h .q) i 0 ≡ getD (h .w) i 0 * (getD v i 0 * getD v i 0)

@@ -5,7 +5,7 @@ use Prim.Native.Nat.{ℕ, suc, _+_, _*_, _≤_, _<_}
 use lib.ListN.{length, getD}
 use lib.Ieee.{Float, nan}
 use Rattle.groups.specs.declared.Histogram.{Histogram}
-use Rattle.groups.specs.Groups.{bestOf, costIn, cutIn, prefixOf}
+use Rattle.groups.specs.Groups.{bestOf, costIn, cutIn, prefixOf, cutTo}
 
 -- the row of a table that starts at base
 abbrev pub rowAt : List Float → ℕ → ℕ → Float
@@ -26,6 +26,9 @@ module _ (pw ps pq : List Float) where
     pub costs : (k j : ℕ) → k ≤ K → j ≤ n → getD cost (k * 33 + j) nan ≡ costIn pw ps pq k j
     pub cuts : (k j : ℕ) → suc k ≤ K → j ≤ n → getD cut (k * 33 + 33 + j) 0 ≡ cutIn pw ps pq k j
 
--- the tables of a histogram, up to row K
+-- of a histogram
 abbrev pub TablesOf : Histogram → ℕ → List Float → List ℕ → Type 0
 TablesOf h K cost cut = Tabled (prefixOf (h .w)) (prefixOf (h .s)) (prefixOf (h .q)) (h .n) K cost cut
+
+abbrev pub CutsOf : Histogram → ℕ → List ℕ → Type 0
+CutsOf h K cut = (k j : ℕ) → suc k ≤ K → j ≤ h .n → getD cut (k * 33 + 33 + j) 0 ≡ cutTo h k j

@@ -3,14 +3,14 @@
 ghost use mathlib.Core.Path.{_≡_};
 ghost use mathlib.Core.Bool.{true};
 ghost use mathlib.Core.List.{List, map};
-ghost use Prim.Native.Nat.{ℕ, suc, _+_, _*_, _^_, _≤_, _<_};
+ghost use Prim.Native.Nat.{ℕ, _+_, _*_, _^_, _≤_, _<_};
 ghost use lib.ListN.{length, getD, set, replicate};
 ghost use lib.Ieee.{nan};
 ghost use Rattle.ieee.specs.Bounds.{Within};
 ghost use Rattle.samples.specs.Samples.{samplesOk, levelOf};
 ghost use Rattle.groups.specs.Histogram.{occurs, gathered, histogramOf, sumTo, IsHistogram};
-ghost use Rattle.groups.specs.Groups.{prefixOf, costOf, bestOf, cutTo, sumIn, colorOf, groupsOf};
-ghost use Rattle.groups.specs.Tables.{rowAt, Filled, TablesOf};
+ghost use Rattle.groups.specs.Groups.{prefixOf, costOf, bestOf, sumIn, colorOf, groupsOf};
+ghost use Rattle.groups.specs.Tables.{rowAt, Filled, CutsOf, TablesOf};
 
 // The levels that occur, ascending: how many there are, and of each of the first 32 its count, sum and sum of
 // squares.
@@ -21,6 +21,7 @@ pub struct Histogram {
     pub q: [u64; 32],
 }
 
+// One pass over the samples, then one over the counts.
 pub fn histogram_of(samples: &[f32], bd: u32) -> Histogram
     requires { ⌜ (8 ≤ bd) × (bd ≤ 12) × (length (now samples) ≤ 4096) × (samplesOk bd (now samples) ≡ true) ⌝ }
     ensures { λ r. ⌜ r ≡ histogramOf (map levelOf (now (samples .entry))) ⌝ }
@@ -30,10 +31,13 @@ pub fn histogram_of(samples: &[f32], bd: u32) -> Histogram
     gather(&counts, samples::top_level(bd) as usize + 1)
 }
 
+// How often each level occurs.
 fn count_levels(samples: &[f32], counts: &mut [u16; 4096])
-    requires { ⌜ (length (now samples) ≤ 4096) × ((i : ℕ) → i < length (now samples) → Within (getD (now samples) i nan) 4095) ⌝ }
+    requires { ⌜ (length (now samples) ≤ 4096)
+        × ((i : ℕ) → i < length (now samples) → Within (getD (now samples) i nan) 4095) ⌝ }
     requires { ⌜ now counts ≡ replicate 4096 0 ⌝ }
-    ensures { λ _. ⌜ ((v : ℕ) → v < 4096 → getD (now (counts .exit)) v 0 ≡ occurs (map levelOf (now (samples .entry))) v) ⌝ }
+    ensures { λ _. ⌜ ((v : ℕ) → v < 4096
+        → getD (now (counts .exit)) v 0 ≡ occurs (map levelOf (now (samples .entry))) v) ⌝ }
 {
     let mut i: usize = 0;
     while i < samples.len() {
@@ -67,7 +71,7 @@ fn gather(counts: &[u16; 4096], top: usize) -> Histogram
     Histogram { n, w, s, q }
 }
 
-// Stores x where there is a place for it.
+// Stores x where there is a place for it: past 32 levels only their number counts.
 fn put(xs: &mut [u64], at: usize, x: u64)
     ensures { λ _. ⌜ now (xs .exit) ≡ set (now (xs .entry)) at x ⌝ }
 {
@@ -116,7 +120,8 @@ fn best_cut(
     j: usize,
 ) -> Best
     requires { ⌜ (k ≤ 7) × (j ≤ 32) ⌝ }
-    ensures { λ r. ⌜ r ≡ bestOf (now (pw .entry)) (now (ps .entry)) (now (pq .entry)) (rowAt (now (costs .entry)) (k * 33)) k j ⌝ }
+    ensures { λ r. ⌜ r ≡ bestOf (now (pw .entry)) (now (ps .entry)) (now (pq .entry))
+        (rowAt (now (costs .entry)) (k * 33)) k j ⌝ }
 {
     let base = k * 33;
     let mut b = Best {
@@ -145,7 +150,8 @@ fn fill_row(
     cuts: &mut [usize; 297],
 )
     requires { ⌜ (n ≤ 32) × (k ≤ 7) × (length (now costs) ≡ 297) × (length (now cuts) ≡ 297) ⌝ }
-    ensures { λ _. ⌜ Filled (now (pw .entry)) (now (ps .entry)) (now (pq .entry)) k (n + 1) (now (costs .entry)) (now (costs .exit)) (now (cuts .entry)) (now (cuts .exit)) ⌝ }
+    ensures { λ _. ⌜ Filled (now (pw .entry)) (now (ps .entry)) (now (pq .entry)) k (n + 1)
+        (now (costs .entry)) (now (costs .exit)) (now (cuts .entry)) (now (cuts .exit)) ⌝ }
 {
     let mut j: usize = 0;
     while j <= n {
@@ -206,7 +212,7 @@ pub fn groups_of(h: Histogram, costs: &[f64; 297], cuts: &[usize; 297], k: usize
 
 // The colours, from the last group back to the first.
 fn centers(h: Histogram, cuts: &[usize; 297], k: usize) -> [u16; 8]
-    requires { ⌜ (k ≤ 8) × (k ≤ h .n) × ((v : List ℕ) × IsHistogram v h) × ((m j : ℕ) → suc m ≤ k → j ≤ h .n → getD (now cuts) (m * 33 + 33 + j) 0 ≡ cutTo h m j) ⌝ }
+    requires { ⌜ (k ≤ 8) × (k ≤ h .n) × ((v : List ℕ) × IsHistogram v h) × CutsOf h k (now cuts) ⌝ }
     ensures { λ r. ⌜ r ≡ groupsOf h k .colors ⌝ }
 {
     let w = h.w;
@@ -225,7 +231,8 @@ fn centers(h: Histogram, cuts: &[usize; 297], k: usize) -> [u16; 8]
 
 // The colour of the levels i..j: their mean, rounded half up.
 fn color(w: &[u64; 32], s: &[u64; 32], i: usize, j: usize) -> u16
-    requires { ⌜ (i < j) × (j ≤ 32) × (sumTo (now w) j ≤ 4096) × (0 < sumIn (now w) i j) × (sumIn (now s) i j ≤ 4095 * sumIn (now w) i j) ⌝ }
+    requires { ⌜ (i < j) × (j ≤ 32) × (sumTo (now w) j ≤ 4096)
+        × (0 < sumIn (now w) i j) × (sumIn (now s) i j ≤ 4095 * sumIn (now w) i j) ⌝ }
     ensures { λ r. ⌜ r ≡ colorOf (now (w .entry)) (now (s .entry)) i j ⌝ }
 {
     let mut dw: u64 = 0;

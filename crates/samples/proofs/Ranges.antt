@@ -50,7 +50,8 @@ pub level-within : (x : Float) (A : ℕ) → Under x A → levelOf x ≤ A
 level-within (fin s m e) A h = rounded-le (num (fin s m e)) (den (fin s m e)) A (den-pos (fin s m e)) h
 
 -- a sample is at most the top level of its depth, and so is its level
-module _ (bd : ℕ) (samples : List Float) (deep : bd ≤ 12) (e : samplesOk bd samples ≡ true) (i : ℕ) (l : i < length samples) where
+module _ (bd : ℕ) (samples : List Float) (deep : bd ≤ 12) (e : samplesOk bd samples ≡ true)
+    (i : ℕ) (l : i < length samples) where
   pub sample-within : Within (getD samples i nan) (2 ^ bd - 1)
   sample-within =
       all-within (2 ^ bd - 1) samples (le-trans (sub-le (2 ^ bd) 1) (le-trans (pow-mono deep) (lit≤ tt))) e i l

@@ -70,14 +70,18 @@ pub fn level_of(x: f32) -> u16
     ((std::num::truncating_f32_to_u64(x + x) + 1) / 2) as u16
 }
 
-// x is positive and below 2^40. In units of 2^-150 it is halved until 25 binary digits of its whole
-// part are left, so the last of them is the half that decides.
+// The f32 nearest to x, for 0 < x < 2^40. In units of 2^-150 x is halved until 25 binary digits of its whole part
+// are left, so the last of them is the half that decides. From 1 on, units of 2^-25 will do, and fewer halvings.
 fn narrow_positive(x: f64) -> f32
     requires { ⌜ (lt (ofBits binary64 0) x ≡ true) × (lt x (ofBits binary64 0x4270_0000_0000_0000) ≡ true) ⌝ }
     ensures { λ r. ⌜ r ≡ round binary32 false (num x) (den x) ⌝ }
 {
     let mut y = x * 1427247692705959881058285969449495136382746624.0;
     let mut p: f32 = 1.0e-45;
+    if x >= 1.0 {
+        y = x * 33554432.0;
+        p = 5.9604644775390625e-8;
+    }
     while y >= 33554432.0 {
         y = y * 0.5;
         p = p + p;
@@ -93,8 +97,7 @@ fn narrow_positive(x: f64) -> f32
     ((h + 1) as f32) * p
 }
 
-// The f32 nearest to x, for an x from 0 up to 2^40: 0 where x is not above 0, and an infinity from
-// 2^40 on.
+// The f32 nearest to an error of the groups, which is below 2^40.
 pub fn narrow(x: f64) -> f32
     ensures { λ r. ⌜ r ≡ narrowOf x ⌝ }
 {

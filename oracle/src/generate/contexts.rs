@@ -36,6 +36,54 @@ pub fn corner(seed: u64, index: u64) -> (Corner, CornerKind) {
     (corner, kind)
 }
 
+kinds! {
+    /// What is wrong in a damaged question. Some damages happen to do no harm.
+    CornerDamage {
+        FirstCell = "first-cell",
+        Column = "column",
+        Stride = "stride",
+        Count = "count",
+        ShortMap = "short-map",
+        Neighbour = "neighbour",
+        FarRow = "far-row",
+    }
+}
+
+/// Keeps the corner of a seed and index the same.
+const STREAM: u64 = 1 << 63;
+
+/// A corner, damaged about one time in ten.
+pub fn asked_corner(seed: u64, index: u64) -> (Corner, CornerKind, Option<CornerDamage>) {
+    let (mut corner, kind) = corner(seed, index);
+    let random = &mut Random::new(seed ^ STREAM, index);
+    if !random.one_in(10) {
+        return (corner, kind, None);
+    }
+    let damage = random.pick(CornerDamage::ALL);
+    damage_corner(random, damage, &mut corner);
+    (corner, kind, Some(damage))
+}
+
+fn damage_corner(random: &mut Random, damage: CornerDamage, corner: &mut Corner) {
+    let used = neighbours(corner);
+    let last = used.iter().max().map_or(0, |&place| place as usize);
+    match damage {
+        CornerDamage::FirstCell => (corner.y, corner.x) = (0, 0),
+        CornerDamage::Column => {
+            let further = random.pick(&[0, 1, 7, usize::MAX]);
+            corner.x = corner.stride.saturating_add(further);
+        }
+        CornerDamage::Stride => corner.stride = random.pick(&[0, corner.x, 1 << 63]),
+        CornerDamage::Count => corner.n = random.pick(&[0, 1, 9, 255, 256, 258, usize::MAX]),
+        CornerDamage::ShortMap => corner.map.truncate(random.between(0, last)),
+        CornerDamage::Neighbour => {
+            let place = random.pick(&used) as usize;
+            corner.map[place] = random.between(corner.n, 255) as u8;
+        }
+        CornerDamage::FarRow => corner.y = random.pick(&[65, 1 << 32, 1 << 63, usize::MAX]),
+    }
+}
+
 fn cell(random: &mut Random, kind: CornerKind) -> (usize, usize, usize) {
     let stride = random.between(2, 66);
     match kind {

@@ -1,15 +1,17 @@
+-- The invariant: i is m past k, and b is the best of the first m cuts.
+use mathlib.Core.Path.{_≡_, refl}
+use mathlib.Core.Logic.{⊎-elim}
+use Prim.Native.Nat.{ℕ, suc, _+_, _-_, _*_, _≤_}
+use native.Mathlib.Omega.{arith}
+use lib.Ieee.{ofBits, div}
 use Rattle.groups.specs.Tables.{rowAt}
 use Rattle.groups.specs.Groups.{firstOf}
-use lib.Ieee.{ofBits, div}
-use native.Mathlib.Omega.{arith}
-use Prim.Native.Nat.{ℕ, suc, _+_, _-_, _*_, _≤_}
-use mathlib.Core.Logic.{⊎-elim}
-use mathlib.Core.Path.{_≡_, refl}
 use Rattle.groups.proofs.best_cut.Statement.{statement}
 use Rattle.groups.proofs.best_cut.Tie as tie
 
 abbrev Inv-loop : tie.InvT-loop
-Inv-loop costs pw ps pq k j base b₀ i₀ b i = (m : ℕ) × (i ≡ k + m) × (m ≤ j - k) × (b ≡ firstOf pw ps pq (rowAt costs (k * 33)) k j m)
+Inv-loop costs pw ps pq k j base b₀ i₀ b i =
+    (m : ℕ) × (i ≡ k + m) × (m ≤ j - k) × (b ≡ firstOf pw ps pq (rowAt costs (k * 33)) k j m)
 
 abbrev μ-loop : tie.MeasureT-loop
 μ-loop costs pw ps pq k j base b₀ i₀ b i = j - i

@@ -1,11 +1,13 @@
+-- The invariant: the sums of the numbers passed.
+use mathlib.Core.Path.{_≡_, refl}
+use mathlib.Core.List.{List}
+use Prim.Native.Nat.{ℕ, _+_, _-_, _*_, _≤_, _<_}
+use native.Mathlib.Nat.{mul-pos, zero-lt-suc, div-lt-iff-lt-mul}
+use native.Mathlib.Omega.{arith}
 use lib.ListN.{getD}
-use Rattle.groups.proofs.Sums.{sum-next, sum-mono}
 use Rattle.groups.specs.Groups.{sumIn}
 use Rattle.groups.specs.Histogram.{sumTo}
-use Rattle.samples.proofs.Ranges.{rounded-le}
-use native.Mathlib.Omega.{arith}
-use Prim.Native.Nat.{_+_, _-_, _*_, _≤_, _<_}
-use mathlib.Core.Path.{_≡_, refl}
+use Rattle.groups.proofs.Sums.{sum-next, sum-mono}
 use Rattle.groups.proofs.color.Statement.{statement}
 use Rattle.groups.proofs.color.Tie as tie
 
@@ -15,34 +17,42 @@ Inv-loop w s i j dw₀ ds₀ t₀ dw ds t = (i ≤ t) × (t ≤ j) × (dw + sumT
 abbrev μ-loop : tie.MeasureT-loop
 μ-loop w s i j dw₀ ds₀ t₀ dw ds t = j - t
 
--- one number more of each
-record More (c : tie.In-loop Inv-loop μ-loop) : Type 0 where
-  w : sumTo (c .before .before .args .w .now) (c .before .loop .t + 1) ≡ sumTo (c .before .before .args .w .now) (c .before .loop .t) + getD (c .before .before .args .w .now) (c .before .loop .t) 0
-  s : sumTo (c .before .before .args .s .now) (c .before .loop .t + 1) ≡ sumTo (c .before .before .args .s .now) (c .before .loop .t) + getD (c .before .before .args .s .now) (c .before .loop .t) 0
-  w-last : sumTo (c .before .before .args .w .now) (c .before .loop .t + 1) ≤ sumTo (c .before .before .args .w .now) (c .before .before .args .j)
-  s-last : sumTo (c .before .before .args .s .now) (c .before .loop .t + 1) ≤ sumTo (c .before .before .args .s .now) (c .before .before .args .j)
+-- what one number more adds to a sum, which is not above the whole
+record More (xs : List ℕ) (t j : ℕ) : Type 0 where
+  next : sumTo xs (t + 1) ≡ sumTo xs t + getD xs t 0
+  last : sumTo xs (t + 1) ≤ sumTo xs j
 
-more : (c : tie.In-loop Inv-loop μ-loop) → More c
+more : (c : tie.In-loop Inv-loop μ-loop)
+    → let a = c .before .before .args in
+    let t = c .before .loop .t in
+    More (a .w .now) t (a .j) × More (a .s .now) t (a .j)
 more c =
     let a = c .before .before .args in
     let t = c .before .loop .t in
-    record { w = sum-next (a .w .now) t; s = sum-next (a .s .now) t; w-last = sum-mono (a .w .now) (t + 1) (a .j) (omega arith); s-last = sum-mono (a .s .now) (t + 1) (a .j) (omega arith) }
+    let l : t + 1 ≤ a .j = omega arith in
+    let one : (xs : List ℕ) → More xs t (a .j) =
+    λ xs. record { next = sum-next xs t; last = sum-mono xs (t + 1) (a .j) l } in
+    (one (a .w .now), one (a .s .now))
 
 -- after the loop
-record Sums (c : tie.After-loop Inv-loop μ-loop) : Type 0 where
-  weight : c .before .loop .dw ≡ sumIn (c .before .before .args .w .now) (c .before .before .args .i) (c .before .before .args .j)
-  sum : c .before .loop .ds ≡ sumIn (c .before .before .args .s .now) (c .before .before .args .i) (c .before .before .args .j)
-  some : 0 < c .before .loop .dw
-  few : c .before .loop .dw ≤ 4096
-  mean : c .before .loop .ds ≤ 4095 * c .before .loop .dw
+record Sums (w s : List ℕ) (i j dw ds : ℕ) : Type 0 where
+  weight : dw ≡ sumIn w i j
+  sum : ds ≡ sumIn s i j
+  some : 0 < dw
+  few : dw ≤ 4096
+  mean : ds ≤ 4095 * dw
 
-sums : (c : tie.After-loop Inv-loop μ-loop) → Sums c
+sums : (c : tie.After-loop Inv-loop μ-loop)
+    → let a = c .before .before .args in
+    Sums (a .w .now) (a .s .now) (a .i) (a .j) (c .before .loop .dw) (c .before .loop .ds)
 sums c =
     let l = c .before .loop in
     let a = c .before .before .args in
     let e : l .t ≡ a .j = omega arith in
-    let w : l .dw ≡ sumIn (a .w .now) (a .i) (a .j) = let i : l .dw + sumTo (a .w .now) (a .i) ≡ sumTo (a .w .now) (a .j) = rw e at (l .inv .2) in omega arith in
-    let s : l .ds ≡ sumIn (a .s .now) (a .i) (a .j) = let i : l .ds + sumTo (a .s .now) (a .i) ≡ sumTo (a .s .now) (a .j) = rw e at (l .inv .3) in omega arith in
+    let dw : l .dw + sumTo (a .w .now) (a .i) ≡ sumTo (a .w .now) (a .j) = rw e at (l .inv .2) in
+    let ds : l .ds + sumTo (a .s .now) (a .i) ≡ sumTo (a .s .now) (a .j) = rw e at (l .inv .3) in
+    let w : l .dw ≡ sumIn (a .w .now) (a .i) (a .j) = omega arith in
+    let s : l .ds ≡ sumIn (a .s .now) (a .i) (a .j) = omega arith in
     record { weight = w; sum = s; some = omega arith; few = omega arith; mean = rw (w, s) (c .before .before .pre .4) }
 
 loop-holds : tie.Need-loop-holds Inv-loop μ-loop
@@ -88,7 +98,9 @@ div-result : tie.Need-div-result Inv-loop μ-loop
 div-result c = omega (arith, sums c)
 
 cast-result : tie.Need-cast-result Inv-loop μ-loop
-cast-result c = let m = sums c in omega (arith, rounded-le (c .before .loop .ds) (c .before .loop .dw) 4095 (m .some) (m .mean))
+cast-result c =
+    let m = sums c in
+    record { fits = div-lt-iff-lt-mul (mul-pos (zero-lt-suc 1) (m .some)) .1 (omega (arith, m)) }
 
 returns : tie.Need-returns Inv-loop μ-loop
 returns c = let m = sums c in rw (m .weight, m .sum) refl

@@ -1,9 +1,10 @@
-use Rattle.groups.proofs.Rows.{none, more}
-use Rattle.groups.specs.Tables.{Filled}
-use lib.ListN.{length}
-use native.Mathlib.Omega.{arith}
-use Prim.Native.Nat.{_+_, _-_, _*_, _≤_, _<_}
+-- The invariant: the row is filled up to column j.
 use mathlib.Core.Path.{_≡_}
+use Prim.Native.Nat.{_+_, _-_, _*_, _≤_, _<_}
+use native.Mathlib.Omega.{arith}
+use lib.ListN.{length}
+use Rattle.groups.specs.Tables.{Filled}
+use Rattle.groups.proofs.Rows.{none, more}
 use Rattle.groups.proofs.fill_row.Statement.{statement}
 use Rattle.groups.proofs.fill_row.Tie as tie
 
@@ -50,10 +51,14 @@ loop-again : tie.Need-loop-again Inv-loop μ-loop
 loop-again c =
     let l = c .before .before .before .loop in
     let s = c .before .before .before .before in
+    let a = s .args in
     let f = l .inv .1 in
-    let in-costs : s .args .k * 33 + 33 + l .j < length (l .costs) = omega (arith, f .len, s .pre .2) in
-    let in-cuts : s .args .k * 33 + 33 + l .j < length (l .cuts) = omega (arith, f .len-cuts, s .pre .3) in
-    (omega arith, more _ _ _ (s .args .k) (l .j) (s .args .costs .now) (l .costs) (s .args .cuts .now) (l .cuts) (c .best-cut .result) f (c .best-cut .ensures) in-costs in-cuts (omega arith))
+    let in-costs : a .k * 33 + 33 + l .j < length (l .costs) = omega (arith, f .len, s .pre .2) in
+    let in-cuts : a .k * 33 + 33 + l .j < length (l .cuts) = omega (arith, f .len-cuts, s .pre .3) in (
+      omega arith,
+      more _ _ _ (a .k) (l .j) (a .costs .now) (l .costs) (a .cuts .now) (l .cuts) (c .best-cut .result) f
+          (c .best-cut .ensures) in-costs in-cuts (omega arith),
+    )
 
 returns : tie.Need-returns Inv-loop μ-loop
 returns c =

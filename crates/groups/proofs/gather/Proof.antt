@@ -1,19 +1,21 @@
-use Rattle.groups.proofs.Levels.{placed, none-more, one-more, places-length}
-use Rattle.groups.specs.Histogram.{gathered, perLevel, places}
-use Rattle.lists.specs.Written.{written}
-use Rattle.lists.specs.Counted.{upTo}
-use mathlib.Core.List.{[], _∷_}
-use lib.ListN.{getD, set, length, length-append}
-use mathlib.Core.Logic.{⊎-elim}
+-- The invariant: the histogram of the levels below v.
 use mathlib.Core.Path.{_≡_, refl, sym, ap, _∙_}
-use Prim.Native.Nat.{ℕ, _+_, _-_, _*_, _≤_}
+use mathlib.Core.Logic.{⊎-elim}
+use Prim.Native.Nat.{ℕ, _-_, _*_, _≤_}
 use native.Mathlib.Nat.{mul-le-mul}
 use native.Mathlib.Omega.{arith}
+use lib.ListN.{getD, length}
+use Rattle.lists.specs.Written.{written}
+use Rattle.lists.specs.Counted.{upTo}
+use Rattle.groups.specs.declared.Histogram.{Histogram}
+use Rattle.groups.specs.Histogram.{gathered}
+use Rattle.groups.proofs.Levels.{one-level, no-level, places-length}
 use Rattle.groups.proofs.gather.Statement.{statement}
 use Rattle.groups.proofs.gather.Tie as tie
 
 abbrev Inv-loop : tie.InvT-loop
-Inv-loop counts top w₀ s₀ q₀ n₀ v₀ w s q n v = (v ≤ top) × (n ≤ v) × (record { n = n; w = w; s = s; q = q } ≡ gathered (λ l. getD counts l 0) v)
+Inv-loop counts top w₀ s₀ q₀ n₀ v₀ w s q n v =
+    (v ≤ top) × (n ≤ v) × (record { n = n; w = w; s = s; q = q } ≡ gathered (λ l. getD counts l 0) v)
 
 abbrev μ-loop : tie.MeasureT-loop
 μ-loop counts top w₀ s₀ q₀ n₀ v₀ w s q n v = top - v
@@ -26,8 +28,11 @@ counts-in c v = getD (c .args .counts .now) v 0
 lengths : (c : tie.At-loop Inv-loop μ-loop)
     → (length (c .loop .w) ≡ 32) × (length (c .loop .s) ≡ 32) × (length (c .loop .q) ≡ 32)
 lengths c =
-    let e = c .loop .inv .2 in
-    (ap (λ h. length (h .w)) e ∙ places-length _, ap (λ h. length (h .s)) e ∙ places-length _, ap (λ h. length (h .q)) e ∙ places-length _)
+    let e = c .loop .inv .2 in (
+      ap (λ h. length (h .w)) e ∙ places-length _,
+      ap (λ h. length (h .s)) e ∙ places-length _,
+      ap (λ h. length (h .q)) e ∙ places-length _,
+    )
 
 record Small (n v : ℕ) : Type 0 where
   count : n ≤ 4096
@@ -37,8 +42,9 @@ record Small (n v : ℕ) : Type 0 where
 
 small : (c : tie.In-loop Inv-loop μ-loop) → Small (counts-in (c .before .before) (c .before .loop .v)) (c .before .loop .v)
 small c =
-    let n : counts-in (c .before .before) (c .before .loop .v) ≤ 4096 = c .before .before .pre .1 (c .before .loop .v) (c .loop-test .taken) in
-    let v : c .before .loop .v ≤ 4095 = omega arith in
+    let a = c .before .loop .v in
+    let n : counts-in (c .before .before) a ≤ 4096 = c .before .before .pre .1 a (c .loop-test .taken) in
+    let v : a ≤ 4095 = omega arith in
     record { count = n; sum = mul-le-mul n v; square = mul-le-mul v v; squares = mul-le-mul n (mul-le-mul v v) }
 
 loop-holds : tie.Need-loop-holds Inv-loop μ-loop
@@ -95,34 +101,15 @@ loop-again c =
     let l = c .before .before .before .loop in
     let v = l .v in
     let count = counts-in (c .before .before .before .before) in
-    let e = l .inv .2 in
+    let old : Histogram = record { n = l .n; w = l .w; s = l .s; q = l .q } in
     ⊎-elim
-    (λ k.
-    let n : l .n ≡ length (perLevel count v (λ m. m)) = ap (λ h. h .n) e in
-    let n' : c .if1 .n ≡ length (perLevel count (v + 1) (λ m. m)) =
-    k .13 ∙ ap (λ z. z + 1) n ∙ sym (ap length (one-more count (λ m. m) v (k .0 .taken)) ∙ length-append (perLevel count v (λ m. m)) (v ∷ [])) in
-    let w' : c .if1 .w ≡ places (perLevel count (v + 1) count) =
-    k .10 ∙ k .2 .ensures ∙ ap (λ h. set (h .w) (l .n) (count v)) e ∙ placed count count (l .n) v n (k .0 .taken) in
-    let s' : c .if1 .s ≡ places (perLevel count (v + 1) (λ m. count m * m)) =
-    k .11 ∙ k .5 .ensures ∙ ap (λ h. set (h .s) (l .n) (count v * v)) e ∙ placed count (λ m. count m * m) (l .n) v n (k .0 .taken) in
-    let q' : c .if1 .q ≡ places (perLevel count (v + 1) (λ m. count m * (m * m))) =
-    k .12 ∙ k .8 .ensures ∙ ap (λ h. set (h .q) (l .n) (count v * (v * v))) e ∙ placed count (λ m. count m * (m * m)) (l .n) v n (k .0 .taken) in
-    (omega arith, omega (arith, k .13), cc (n', w', s', q')))
     (λ k. (
       omega arith,
-      omega (arith, k .4),
-      cc (
-        e,
-        k .1,
-        k .2,
-        k .3,
-        k .4,
-        none-more count (λ m. m) v (k .0 .left),
-        none-more count count v (k .0 .left),
-        none-more count (λ m. count m * m) v (k .0 .left),
-        none-more count (λ m. count m * (m * m)) v (k .0 .left),
-      ),
+      omega (arith, k .13),
+      one-level count v old _ _ _ _ (l .inv .2) (k .0 .taken) (k .13) (k .10 ∙ k .2 .ensures) (k .11 ∙ k .5 .ensures)
+          (k .12 ∙ k .8 .ensures),
     ))
+    (λ k. (omega arith, omega (arith, k .4), cc (l .inv .2, k .1, k .2, k .3, k .4, no-level count v (k .0 .left))))
     (c .if1 .came)
 
 returns : tie.Need-returns Inv-loop μ-loop

@@ -1,10 +1,10 @@
-use Rattle.groups.specs.Groups.{costTo, floored}
-use lib.Ieee.{nan, binary64, ofBits}
-use lib.ListN.{getD}
+use mathlib.Core.Path.{_≡_, refl}
 use Prim.Native.Nat.{_+_, _*_}
 use native.Mathlib.Omega.{arith}
-use mathlib.Core.Path.{_≡_, refl}
+use lib.ListN.{getD}
+use lib.Ieee.{nan, binary64, ofBits}
 use borrow.Author.Needs.{needs}
+use Rattle.groups.specs.Groups.{costTo, floored}
 use Rattle.groups.proofs.groups_of.Statement.{statement}
 use Rattle.groups.proofs.groups_of.Tie as tie
 
@@ -23,21 +23,24 @@ element-copy-out-e c = search needs
 centers-requires : tie.Need-centers-requires
 centers-requires c κs = search needs
 
+-- the cost in the table
+cost-is : (c : tie.Start)
+    → getD (c .args .costs .now) (c .args .k * 33 + c .args .h .n) nan ≡ costTo (c .args .h) (c .args .k) (c .args .h .n)
+cost-is c = c .pre .3 .costs (c .args .k) (c .args .h .n) (omega arith) (omega arith)
+
 returns : tie.Need-returns
 returns c =
     let s = c .before .before .before in
     let x = getD (s .args .costs .now) (s .args .k * 33 + s .args .h .n) nan in
-    let e : x ≡ costTo (s .args .h) (s .args .k) (s .args .h .n) = s .pre .3 .costs (s .args .k) (s .args .h .n) (omega arith) (omega arith) in
     let f : floored x ≡ x = rw (c .if1 .taken) refl in
-    cc (c .before .centers .ensures, e, f)
+    cc (c .before .centers .ensures, cost-is s, f)
 
 returns-2 : tie.Need-returns-2
 returns-2 c =
     let s = c .before .before .before in
     let x = getD (s .args .costs .now) (s .args .k * 33 + s .args .h .n) nan in
-    let e : x ≡ costTo (s .args .h) (s .args .k) (s .args .h .n) = s .pre .3 .costs (s .args .k) (s .args .h .n) (omega arith) (omega arith) in
     let f : floored x ≡ ofBits binary64 0 = rw (c .if1 .left) refl in
-    cc (c .before .centers .ensures, e, f)
+    cc (c .before .centers .ensures, cost-is s, f)
 
 pub groups-of-spec : {M : Type 1} → statement M
 groups-of-spec =

@@ -1,18 +1,19 @@
-use Rattle.groups.proofs.Sums.{sums-first, sums-length, sums-next}
-use Rattle.groups.specs.Groups.{prefixOf}
-use Rattle.ieee.specs.Numbers.{nat}
-use mir.Syntax.{w64}
-use borrow.Kind.Array.{good-length, eInt}
-use borrow.Author.Count.{below-more}
-use lib.Ieee.{Float, nan, binary64, inFloat, add, ofBits}
-use lib.Dec.{le→leb}
-use lib.Seq.{getD-set-same, getD-set-other, ext-getD}
-use lib.ListN.{length, getD, set, length-set}
+-- The invariant: the sums up to i stand in their places.
+use mathlib.Core.Path.{_≡_, refl, sym, ap, _∙_}
+use Prim.Native.Nat.{ℕ, suc, _+_, _-_, _^_, _≤_, _<_}
 use native.Mathlib.Omega.{arith}
 use native.Mathlib.Numerals.{add-one}
 use native.Mathlib.Nat.{ne-of-lt}
-use Prim.Native.Nat.{ℕ, suc, _+_, _-_, _^_, _≤_, _<_}
-use mathlib.Core.Path.{_≡_, refl, sym, ap, _∙_}
+use lib.Dec.{le→leb}
+use lib.ListN.{length, getD, set, length-set}
+use lib.Seq.{getD-set-same, getD-set-other, ext-getD}
+use lib.Ieee.{Float, nan, binary64, inFloat, add, ofBits}
+use mir.Syntax.{w64}
+use borrow.Kind.Array.{good-length, eInt}
+use borrow.Author.Count.{below-more}
+use Rattle.ieee.specs.Numbers.{nat}
+use Rattle.groups.specs.Groups.{prefixOf}
+use Rattle.groups.proofs.Sums.{sums-first, sums-length, sums-next}
 use Rattle.groups.proofs.prefix.Statement.{statement}
 use Rattle.groups.proofs.prefix.Tie as tie
 
@@ -26,7 +27,11 @@ full : (c : tie.Start Inv-loop μ-loop) → length (c .args .t1) ≡ 32
 full c = good-length (eInt w64) 32 (c .args .t1) _ (c .good .0)
 
 loop-holds : tie.Need-loop-holds Inv-loop μ-loop
-loop-holds c = (omega arith, refl, λ k h. let e : k ≡ 0 = omega arith in rw e (sym (sums-first (ofBits binary64 0) (c .args .t1))))
+loop-holds c = (
+  omega arith,
+  refl,
+  λ k h. let e : k ≡ 0 = omega arith in rw e (sym (sums-first (ofBits binary64 0) (c .args .t1))),
+)
 
 mul-out : tie.Need-mul-out Inv-loop μ-loop
 mul-out c = omega arith
@@ -42,7 +47,10 @@ array-read-out-2 c = omega arith
 
 int-to-float-out : tie.Need-int-to-float-out Inv-loop μ-loop
 unfolding inFloat
-int-to-float-out c = le→leb (getD (c .before .before .before .args .t1) (c .before .before .loop .i) 0) (2 ^ 53) (c .before .before .before .pre (c .before .before .loop .i) (c .before .loop-test .taken))
+int-to-float-out c =
+    let i = c .before .before .loop .i in
+    let s = c .before .before .before in
+    le→leb (getD (s .args .t1) i 0) (2 ^ 53) (s .pre i (c .before .loop-test .taken))
 
 add-out : tie.Need-add-out Inv-loop μ-loop
 add-out c = omega arith

@@ -1,5 +1,5 @@
-use lib.Seq.{set-out}
 use mathlib.Core.Path.{sym}
+use lib.Seq.{set-out}
 use borrow.Author.Needs.{needs}
 use Rattle.groups.proofs.put.Statement.{statement}
 use Rattle.groups.proofs.put.Tie as tie

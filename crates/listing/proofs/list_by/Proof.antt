@@ -103,7 +103,7 @@ copy-words-requires c κs =
     let s = start (e .before .before .before .before) in
     let g : e .before .before .emit-list .result ≤ length (made e) = enough e in
     let h : e .before .before .emit-list .result ≤ length (s .args .words .now) = c .before .before .if2 .left in
-    (g, h)
+    (omega (arith, g), omega (arith, h))
 
 raw-width-requires : tie.Need-raw-width-requires
 raw-width-requires c κs =

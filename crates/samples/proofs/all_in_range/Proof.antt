@@ -1,14 +1,15 @@
-use Rattle.samples.specs.Samples.{allInRange}
+-- The invariant: what was seen and what is left make up the whole.
+use mathlib.Core.Path.{_≡_, refl, sym, _∙_}
 use mathlib.Core.Bool.{_&&_, and-assoc, and-true}
 use mathlib.Core.List.{[], _∷_}
+use Prim.Native.Nat.{_+_, _-_, _≤_}
 use native.Mathlib.Numerals.{add-one}
+use native.Mathlib.Omega.{arith}
+use lib.ListN.{length, getD, drop, drop-of-length-le}
 use lib.Seq.{drop-cons}
 use lib.Ieee.{nan}
-use mathlib.Core.Path.{_≡_, refl, sym, _∙_}
-use lib.ListN.{length, getD, drop, drop-of-length-le}
-use Prim.Native.Nat.{_+_, _-_, _≤_}
-use native.Mathlib.Omega.{arith}
 use borrow.Author.Needs.{scaled-fits}
+use Rattle.samples.specs.Samples.{allInRange}
 use Rattle.samples.proofs.all_in_range.Statement.{statement}
 use Rattle.samples.proofs.all_in_range.Tie as tie
 
@@ -25,7 +26,9 @@ loop-holds : tie.Need-loop-holds Inv-loop μ-loop
 loop-holds c = (omega arith, refl)
 
 mul-x : tie.Need-mul-x Inv-loop μ-loop
-mul-x c = scaled-fits (c .before .loop .i) (length (c .before .before .before .args .xs .now)) 4 (c .loop-test .taken) (c .before .before .before .good .0 .1)
+mul-x c =
+    let s = c .before .before .before in
+    scaled-fits (c .before .loop .i) (length (s .args .xs .now)) 4 (c .loop-test .taken) (s .good .0 .1)
 
 shared-slice-read-x : tie.Need-shared-slice-read-x Inv-loop μ-loop
 shared-slice-read-x c = c .before .loop-test .taken
@@ -41,7 +44,8 @@ unfolding allInRange
 loop-again c =
     let l = c .before .before .loop in
     let xs = c .before .before .before .before .args .xs .now in
-    let e : drop (l .i) xs ≡ getD xs (l .i) nan ∷ drop (l .i + 1) xs = rw add-one (drop-cons xs (l .i) nan (c .before .loop-test .taken)) in
+    let e : drop (l .i) xs ≡ getD xs (l .i) nan ∷ drop (l .i + 1) xs =
+    rw add-one (drop-cons xs (l .i) nan (c .before .loop-test .taken)) in
     (omega arith, simp and-assoc (simp and-assoc at (rw e at (l .inv .1))))
 
 returns : tie.Need-returns Inv-loop μ-loop

@@ -1,10 +1,10 @@
 -- `samples::level_of` meets its contract. x + x is exact, so its whole part is that of twice the fraction, and half of one
 -- more is the rounded number. Assumes nothing.
 use mathlib.Core.Path.{_≡_, sym, ap, _∙_, subst}
+use mathlib.Core.Bool.{false}
 use Prim.Native.Nat.{ℕ, _+_, _*_, _/_, _≤_, _<_}
 use native.Mathlib.Nat.{add-mul-div-right, div-div-eq-div-mul, one-mul, mul-comm}
 use native.Mathlib.Omega.{arith}
-use mathlib.Core.Bool.{false}
 use lib.Dec.{T, lit≤, lit<}
 use lib.Ieee.{Float, binary32, add, fits, toUnsigned}
 use lib.Ieee.Back.{round-whole}

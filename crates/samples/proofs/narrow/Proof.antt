@@ -1,6 +1,6 @@
 -- `samples::narrow` meets its contract. Assumes nothing.
-use borrow.Author.Needs.{needs}
 use lib.Ieee.{ofBits, div}
+use borrow.Author.Needs.{needs}
 use Rattle.samples.proofs.narrow.Statement.{statement}
 use Rattle.samples.proofs.narrow.Tie as tie
 

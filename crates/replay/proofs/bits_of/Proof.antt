@@ -1,0 +1,26 @@
+use mathlib.Core.Path.{_≡_, sym, subst}
+use mathlib.Core.Bool.{Bool, true, false, not}
+use lib.Dec.{T}
+use lib.Ieee.{Float, nan, inf, fin, eq, isNan}
+use borrow.Author.Needs.{needs}
+use Rattle.replay.proofs.bits_of.Statement.{statement}
+use Rattle.replay.proofs.bits_of.Tie as tie
+
+-- what equals itself is no NaN
+number-of-same : (x : Float) → eq x x ≡ true → T (not (isNan x))
+unfolding eq isNan
+number-of-same nan e = subst T (sym e) tt
+number-of-same (inf s) e = tt
+number-of-same (fin s m k) e = tt
+
+float-to-bits-result : tie.Need-float-to-bits-result
+float-to-bits-result c = number-of-same (c .before .args .value) (c .if1 .taken)
+
+returns : tie.Need-returns
+returns c = search needs
+
+returns-2 : tie.Need-returns-2
+returns-2 c = search needs
+
+pub bits-of-spec : {M : Type 1} → statement M
+bits-of-spec = tie.close (tie.spec float-to-bits-result returns returns-2)

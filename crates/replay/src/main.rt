@@ -1,0 +1,306 @@
+// Replays the palettes of standard input through `list` and `pred`, and prints a line of numbers for each. The expected lines
+// are made from the original's answers, never from ours (oracle/README.md).
+// A palette is 29 bytes: width, height, bd, n, orientation, cache length, number of flags; then map length, word room, value
+// room and eight colours, each of two bytes, the low one first. Behind them stand the cache, of two bytes each, the flags and
+// the map. Its line: its place, `list`'s number, count and raw width, a hash of the words, whether the places behind them kept
+// what they held; `pred`'s number, a hash of the bits of its values, and whether the places behind them kept what they held.
+// Functions here may have a `requires`.
+ghost use mathlib.Core.Path.{_≡_};
+ghost use Prim.Native.Nat.{_*_, _<_, _≤_};
+ghost use lib.ListN.{length};
+
+struct Asked {
+    width: usize,
+    height: usize,
+    bd: u32,
+    n: usize,
+    transposed: bool,
+    cached: usize,
+    lines: usize,
+    cells: usize,
+    word_room: usize,
+    value_room: usize,
+    colors: [u16; 8],
+}
+
+fn depth(b: u8) -> u32 {
+    b as u32
+}
+
+fn wide(b: u8) -> usize
+    ensures { λ r. ⌜ r < 256 ⌝ }
+{
+    b as usize
+}
+
+fn pair(low: u8, high: u8) -> u16 {
+    (high as u16) * 256 + low as u16
+}
+
+fn at_most(v: usize, most: usize) -> usize
+    ensures { λ r. ⌜ r ≤ most ⌝ }
+{
+    if v < most { v } else { most }
+}
+
+// A size from two bytes, cut to what the buffers hold.
+fn size(low: u8, high: u8) -> usize
+    ensures { λ r. ⌜ r ≤ 4240 ⌝ }
+{
+    at_most(pair(low, high) as usize, 4240)
+}
+
+fn eight_colors(head: &[u8; 29]) -> [u16; 8] {
+    [
+        pair(head[13], head[14]),
+        pair(head[15], head[16]),
+        pair(head[17], head[18]),
+        pair(head[19], head[20]),
+        pair(head[21], head[22]),
+        pair(head[23], head[24]),
+        pair(head[25], head[26]),
+        pair(head[27], head[28]),
+    ]
+}
+
+fn asked_by(head: &[u8; 29]) -> Asked
+    ensures { λ r. ⌜ (r .cached < 256) × (r .lines < 256) × (r .cells ≤ 4240) × (r .«word_room» ≤ 4240) × (r .«value_room» ≤ 4240) ⌝ }
+{
+    let colors = eight_colors(head);
+    Asked {
+        width: wide(head[0]),
+        height: wide(head[1]),
+        bd: depth(head[2]),
+        n: wide(head[3]),
+        transposed: head[4] != 0,
+        cached: wide(head[5]),
+        lines: wide(head[6]),
+        cells: size(head[7], head[8]),
+        word_room: size(head[9], head[10]),
+        value_room: size(head[11], head[12]),
+        colors,
+    }
+}
+
+fn read_front(bytes: &mut [u8], count: usize)
+    requires { ⌜ count ≤ length (now bytes) ⌝ }
+{
+    io::read_full(0, &mut bytes[..count]);
+}
+
+fn read_cache(cache: &mut [u16], count: usize)
+    requires { ⌜ (count < 256) × (count ≤ length (now cache)) ⌝ }
+{
+    let mut bytes = [0u8; 512];
+    read_front(&mut bytes, 2 * count);
+    let mut i: usize = 0;
+    while i < count {
+        cache[i] = pair(bytes[2 * i], bytes[2 * i + 1]);
+        i += 1;
+    }
+}
+
+// One step of the hash: times 65,599 and plus the word, below a prime, so that nothing wraps.
+fn hashed(h: u64, word: u32) -> u64
+    requires { ⌜ h < 4294967291 ⌝ }
+    ensures { λ r. ⌜ r < 4294967291 ⌝ }
+{
+    (h * 65599 + word as u64) % 4294967291
+}
+
+// What the place i holds before the call: no call word, and another one at each place.
+fn word_before(i: usize) -> u32
+    requires { ⌜ i < 4240 ⌝ }
+{
+    4000000000 + i as u32
+}
+
+fn value_before(i: usize) -> f32
+    requires { ⌜ i < 4240 ⌝ }
+{
+    -0.5 - (i as u16) as f32
+}
+
+fn fill_words(words: &mut [u32])
+    requires { ⌜ length (now words) ≤ 4240 ⌝ }
+{
+    let mut i: usize = 0;
+    while i < words.len() {
+        words[i] = word_before(i);
+        i += 1;
+    }
+}
+
+fn fill_values(values: &mut [f32])
+    requires { ⌜ length (now values) ≤ 4240 ⌝ }
+{
+    let mut i: usize = 0;
+    while i < values.len() {
+        values[i] = value_before(i);
+        i += 1;
+    }
+}
+
+fn hash_words(words: &[u32; 4240], count: usize) -> u64
+    requires { ⌜ count ≤ 4240 ⌝ }
+{
+    let mut h: u64 = 0;
+    let mut i: usize = 0;
+    while i < count {
+        h = hashed(h, words[i]);
+        i += 1;
+    }
+    h
+}
+
+// A NaN has no bits to be read; no value is one.
+fn bits_of(value: f32) -> u32 {
+    if value == value {
+        return f32::to_bits(value);
+    }
+    4294967295
+}
+
+fn hash_values(values: &[f32; 4240], count: usize) -> u64
+    requires { ⌜ count ≤ 4240 ⌝ }
+{
+    let mut h: u64 = 0;
+    let mut i: usize = 0;
+    while i < count {
+        h = hashed(h, bits_of(values[i]));
+        i += 1;
+    }
+    h
+}
+
+// 1 where all words from a place on are as before the call, else 0.
+fn words_kept(words: &[u32; 4240], from: usize) -> u64 {
+    let mut i = from;
+    while i < 4240 {
+        if words[i] != word_before(i) {
+            return 0;
+        }
+        i += 1;
+    }
+    1
+}
+
+fn values_kept(values: &[f32; 4240], from: usize) -> u64 {
+    let mut i = from;
+    while i < 4240 {
+        if values[i] != value_before(i) {
+            return 0;
+        }
+        i += 1;
+    }
+    1
+}
+
+fn print_number(v: u64) {
+    io::write_all(1, b" ");
+    io::print_decimal(1, v);
+}
+
+fn print_listed(number: u32, count: usize, raw_width: u32, words: &[u32; 4240]) {
+    print_number(number as u64);
+    print_number(count as u64);
+    print_number(raw_width as u64);
+    print_number(hash_words(words, at_most(count, 4240)));
+    print_number(words_kept(words, count));
+}
+
+fn replay_list(a: Asked, cache: &[u16], flags: &[u8], map: &[u8])
+    requires { ⌜ a .«word_room» ≤ 4240 ⌝ }
+{
+    let mut words = [0u32; 4240];
+    fill_words(&mut words);
+    let colors = a.colors;
+    let room = a.word_room;
+    let listed = palette::list(
+        a.width,
+        a.height,
+        a.bd,
+        colors,
+        a.n,
+        a.transposed,
+        map,
+        flags,
+        cache,
+        &mut words[..room],
+    );
+    print_listed(listed.number, listed.count, listed.raw_width, &words);
+}
+
+// A refusal writes no values, and `pred` accepts only a map of as many cells as there are values.
+fn written(number: u32, cells: usize) -> usize
+    ensures { λ r. ⌜ r ≤ cells ⌝ }
+{
+    if number == 0 { cells } else { 0 }
+}
+
+fn print_values(number: u32, cells: usize, values: &[f32; 4240])
+    requires { ⌜ cells ≤ 4240 ⌝ }
+{
+    let count = written(number, cells);
+    print_number(number as u64);
+    print_number(hash_values(values, count));
+    print_number(values_kept(values, count));
+}
+
+fn replay_pred(a: Asked, flags: &[u8], map: &[u8])
+    requires { ⌜ (a .cells ≤ 4240) × (a .«value_room» ≤ 4240) ⌝ }
+{
+    let mut values = [0.0f32; 4240];
+    fill_values(&mut values);
+    let colors = a.colors;
+    let room = a.value_room;
+    let number = palette::pred(
+        a.width,
+        a.height,
+        a.bd,
+        colors,
+        a.n,
+        a.transposed,
+        map,
+        flags,
+        &mut values[..room],
+    );
+    print_values(number, a.cells, &values);
+}
+
+// Reads what stands behind the 29 bytes, and prints the palette's line.
+fn replay(place: u64, a: Asked)
+    requires { ⌜ (a .cached < 256) × (a .lines < 256) × (a .cells ≤ 4240) × (a .«word_room» ≤ 4240) × (a .«value_room» ≤ 4240) ⌝ }
+{
+    let mut cache = [0u16; 256];
+    let mut flags = [0u8; 256];
+    let mut map = [0u8; 4240];
+    let cached = a.cached;
+    let lines = a.lines;
+    let cells = a.cells;
+    read_cache(&mut cache, cached);
+    read_front(&mut flags, lines);
+    read_front(&mut map, cells);
+    io::print_decimal(1, place);
+    replay_list(a, &cache[..cached], &flags[..lines], &map[..cells]);
+    replay_pred(a, &flags[..lines], &map[..cells]);
+    io::write_all(1, b"\n");
+}
+
+// False once the input has no further palette.
+fn replay_next(place: u64) -> bool {
+    let mut head = [0u8; 29];
+    let got = io::read_full(0, &mut head);
+    if got < 29 {
+        return false;
+    }
+    replay(place, asked_by(&head));
+    true
+}
+
+fn main() {
+    let mut place: u64 = 1;
+    while place < 10000 && replay_next(place) {
+        place += 1;
+    }
+}
