@@ -6,7 +6,7 @@
 // what they held; `pred`'s number, a hash of the bits of its values, and whether the places behind them kept what they held.
 // Functions here may have a `requires`.
 ghost use mathlib.Core.Path.{_≡_};
-ghost use Prim.Native.Nat.{_*_, _<_, _≤_};
+ghost use Prim.Native.Nat.{_<_, _≤_};
 ghost use lib.ListN.{length};
 
 struct Asked {
@@ -108,40 +108,7 @@ fn hashed(h: u64, word: u32) -> u64
     (h * 65599 + word as u64) % 4294967291
 }
 
-// What the place i holds before the call: no call word, and another one at each place.
-fn word_before(i: usize) -> u32
-    requires { ⌜ i < 4240 ⌝ }
-{
-    4000000000 + i as u32
-}
-
-fn value_before(i: usize) -> f32
-    requires { ⌜ i < 4240 ⌝ }
-{
-    -0.5 - (i as u16) as f32
-}
-
-fn fill_words(words: &mut [u32])
-    requires { ⌜ length (now words) ≤ 4240 ⌝ }
-{
-    let mut i: usize = 0;
-    while i < words.len() {
-        words[i] = word_before(i);
-        i += 1;
-    }
-}
-
-fn fill_values(values: &mut [f32])
-    requires { ⌜ length (now values) ≤ 4240 ⌝ }
-{
-    let mut i: usize = 0;
-    while i < values.len() {
-        values[i] = value_before(i);
-        i += 1;
-    }
-}
-
-fn hash_words(words: &[u32; 4240], count: usize) -> u64
+fn hash(words: &[u32; 4240], count: usize) -> u64
     requires { ⌜ count ≤ 4240 ⌝ }
 {
     let mut h: u64 = 0;
@@ -153,6 +120,18 @@ fn hash_words(words: &[u32; 4240], count: usize) -> u64
     h
 }
 
+// 1 where all words from a place on are as before the call, else 0.
+fn kept(words: &[u32; 4240], from: usize, before: u32) -> u64 {
+    let mut i = from;
+    while i < 4240 {
+        if words[i] != before {
+            return 0;
+        }
+        i += 1;
+    }
+    1
+}
+
 // A NaN has no bits to be read; no value is one.
 fn bits_of(value: f32) -> u32 {
     if value == value {
@@ -161,39 +140,14 @@ fn bits_of(value: f32) -> u32 {
     4294967295
 }
 
-fn hash_values(values: &[f32; 4240], count: usize) -> u64
-    requires { ⌜ count ≤ 4240 ⌝ }
-{
-    let mut h: u64 = 0;
+fn all_bits(values: &[f32; 4240]) -> [u32; 4240] {
+    let mut bits = [0u32; 4240];
     let mut i: usize = 0;
-    while i < count {
-        h = hashed(h, bits_of(values[i]));
-        i += 1;
-    }
-    h
-}
-
-// 1 where all words from a place on are as before the call, else 0.
-fn words_kept(words: &[u32; 4240], from: usize) -> u64 {
-    let mut i = from;
     while i < 4240 {
-        if words[i] != word_before(i) {
-            return 0;
-        }
+        bits[i] = bits_of(values[i]);
         i += 1;
     }
-    1
-}
-
-fn values_kept(values: &[f32; 4240], from: usize) -> u64 {
-    let mut i = from;
-    while i < 4240 {
-        if values[i] != value_before(i) {
-            return 0;
-        }
-        i += 1;
-    }
-    1
+    bits
 }
 
 fn print_number(v: u64) {
@@ -201,19 +155,29 @@ fn print_number(v: u64) {
     io::print_decimal(1, v);
 }
 
-fn print_listed(number: u32, count: usize, raw_width: u32, words: &[u32; 4240]) {
-    print_number(number as u64);
-    print_number(count as u64);
-    print_number(raw_width as u64);
-    print_number(hash_words(words, at_most(count, 4240)));
-    print_number(words_kept(words, count));
+// The hash of what was written, and whether the places behind it are as before the call.
+fn print_buffer(words: &[u32; 4240], count: usize, before: u32) {
+    print_number(hash(words, at_most(count, 4240)));
+    print_number(kept(words, count, before));
+}
+
+// What words and values hold before the call: no call word, and no colour.
+fn blank_words() -> [u32; 4240]
+    ensures { λ r. ⌜ 4240 ≡ length r ⌝ }
+{
+    [4000000000; 4240]
+}
+
+fn blank_values() -> [f32; 4240]
+    ensures { λ r. ⌜ 4240 ≡ length r ⌝ }
+{
+    [0.5; 4240]
 }
 
 fn replay_list(a: Asked, cache: &[u16], flags: &[u8], map: &[u8])
     requires { ⌜ a .«word_room» ≤ 4240 ⌝ }
 {
-    let mut words = [0u32; 4240];
-    fill_words(&mut words);
+    let mut words = blank_words();
     let colors = a.colors;
     let room = a.word_room;
     let listed = palette::list(
@@ -228,30 +192,21 @@ fn replay_list(a: Asked, cache: &[u16], flags: &[u8], map: &[u8])
         cache,
         &mut words[..room],
     );
-    print_listed(listed.number, listed.count, listed.raw_width, &words);
+    print_number(listed.number as u64);
+    print_number(listed.count as u64);
+    print_number(listed.raw_width as u64);
+    print_buffer(&words, listed.count, 4000000000);
 }
 
 // A refusal writes no values, and `pred` accepts only a map of as many cells as there are values.
-fn written(number: u32, cells: usize) -> usize
-    ensures { λ r. ⌜ r ≤ cells ⌝ }
-{
+fn written(number: u32, cells: usize) -> usize {
     if number == 0 { cells } else { 0 }
 }
 
-fn print_values(number: u32, cells: usize, values: &[f32; 4240])
-    requires { ⌜ cells ≤ 4240 ⌝ }
-{
-    let count = written(number, cells);
-    print_number(number as u64);
-    print_number(hash_values(values, count));
-    print_number(values_kept(values, count));
-}
-
 fn replay_pred(a: Asked, flags: &[u8], map: &[u8])
-    requires { ⌜ (a .cells ≤ 4240) × (a .«value_room» ≤ 4240) ⌝ }
+    requires { ⌜ a .«value_room» ≤ 4240 ⌝ }
 {
-    let mut values = [0.0f32; 4240];
-    fill_values(&mut values);
+    let mut values = blank_values();
     let colors = a.colors;
     let room = a.value_room;
     let number = palette::pred(
@@ -265,7 +220,18 @@ fn replay_pred(a: Asked, flags: &[u8], map: &[u8])
         flags,
         &mut values[..room],
     );
-    print_values(number, a.cells, &values);
+    let bits = all_bits(&values);
+    print_number(number as u64);
+    print_buffer(&bits, written(number, a.cells), bits_of(0.5));
+}
+
+fn print_line(place: u64, a: Asked, cache: &[u16], flags: &[u8], map: &[u8])
+    requires { ⌜ (a .«word_room» ≤ 4240) × (a .«value_room» ≤ 4240) ⌝ }
+{
+    io::print_decimal(1, place);
+    replay_list(a, cache, flags, map);
+    replay_pred(a, flags, map);
+    io::write_all(1, b"\n");
 }
 
 // Reads what stands behind the 29 bytes, and prints the palette's line.
@@ -281,10 +247,7 @@ fn replay(place: u64, a: Asked)
     read_cache(&mut cache, cached);
     read_front(&mut flags, lines);
     read_front(&mut map, cells);
-    io::print_decimal(1, place);
-    replay_list(a, &cache[..cached], &flags[..lines], &map[..cells]);
-    replay_pred(a, &flags[..lines], &map[..cells]);
-    io::write_all(1, b"\n");
+    print_line(place, a, &cache[..cached], &flags[..lines], &map[..cells]);
 }
 
 // False once the input has no further palette.

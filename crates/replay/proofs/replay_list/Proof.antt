@@ -5,23 +5,35 @@ use borrow.Author.Needs.{needs}
 use Rattle.replay.proofs.replay_list.Statement.{statement}
 use Rattle.replay.proofs.replay_list.Tie as tie
 
-slice-aggregate-fill-words : tie.Need-slice-aggregate-fill-words
-slice-aggregate-fill-words c = search needs
-
-fill-words-requires : tie.Need-fill-words-requires
-fill-words-requires c κs = search needs
+blank-words-requires : tie.Need-blank-words-requires
+blank-words-requires c κs = search needs
 
 array-borrow-prefix-words : tie.Need-array-borrow-prefix-words
 array-borrow-prefix-words c = search needs
 
 slice-aggregate-list : tie.Need-slice-aggregate-list
-slice-aggregate-list c = sym (length-take-le _ (c .before .before .before .fill-words .last .0) (omega (arith, c .before .before .before .fill-words .kept .0)))
+slice-aggregate-list c = sym (length-take-le _ (c .before .before .blank-words .result) (omega arith))
 
 list-requires : tie.Need-list-requires
 list-requires c κs = search needs
 
-print-listed-requires : tie.Need-print-listed-requires
-print-listed-requires c κs = search needs
+cast-print-number : tie.Need-cast-print-number
+cast-print-number c = search needs
+
+print-number-requires : tie.Need-print-number-requires
+print-number-requires c κs = search needs
+
+print-number-requires-2 : tie.Need-print-number-requires-2
+print-number-requires-2 c κs = search needs
+
+cast-print-number-2 : tie.Need-cast-print-number-2
+cast-print-number-2 c = search needs
+
+print-number-requires-3 : tie.Need-print-number-requires-3
+print-number-requires-3 c κs = search needs
+
+print-buffer-requires : tie.Need-print-buffer-requires
+print-buffer-requires c κs = search needs
 
 returns : tie.Need-returns
 returns c = search needs
@@ -30,10 +42,14 @@ pub replay-list-spec : {M : Type 1} → statement M
 replay-list-spec =
     tie.close
     (tie.spec
-    slice-aggregate-fill-words
-    fill-words-requires
+    blank-words-requires
     array-borrow-prefix-words
     slice-aggregate-list
     list-requires
-    print-listed-requires
+    cast-print-number
+    print-number-requires
+    print-number-requires-2
+    cast-print-number-2
+    print-number-requires-3
+    print-buffer-requires
     returns)

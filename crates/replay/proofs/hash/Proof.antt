@@ -1,25 +1,22 @@
 use borrow.Author.Needs.{needs}
 use Prim.Native.Nat.{_≤_, _<_, _-_}
-use Rattle.replay.proofs.hash_values.Statement.{statement}
-use Rattle.replay.proofs.hash_values.Tie as tie
+use Rattle.replay.proofs.hash.Statement.{statement}
+use Rattle.replay.proofs.hash.Tie as tie
 
 abbrev Inv-loop : tie.InvT-loop
-Inv-loop values count h₀ i₀ h i = (i ≤ count) × (h < 4294967291)
+Inv-loop words count h₀ i₀ h i = (i ≤ count) × (h < 4294967291)
 
 abbrev μ-loop : tie.MeasureT-loop
-μ-loop values count h₀ i₀ h i = count - i
+μ-loop words count h₀ i₀ h i = count - i
 
 loop-holds : tie.Need-loop-holds Inv-loop μ-loop
 loop-holds c = search needs
 
-mul-bits-of : tie.Need-mul-bits-of Inv-loop μ-loop
-mul-bits-of c = search needs
+mul-hashed : tie.Need-mul-hashed Inv-loop μ-loop
+mul-hashed c = search needs
 
-element-copy-out-bits-of : tie.Need-element-copy-out-bits-of Inv-loop μ-loop
-element-copy-out-bits-of c = search needs
-
-bits-of-requires : tie.Need-bits-of-requires Inv-loop μ-loop
-bits-of-requires c κs = search needs
+element-copy-out-hashed : tie.Need-element-copy-out-hashed Inv-loop μ-loop
+element-copy-out-hashed c = search needs
 
 hashed-requires : tie.Need-hashed-requires Inv-loop μ-loop
 hashed-requires c κs = search needs
@@ -36,16 +33,15 @@ loop-again c = search needs
 returns : tie.Need-returns Inv-loop μ-loop
 returns c = search needs
 
-pub hash-values-spec : {M : Type 1} → statement M
-hash-values-spec =
+pub hash-spec : {M : Type 1} → statement M
+hash-spec =
     tie.close
     (tie.spec
     Inv-loop
     μ-loop
     loop-holds
-    mul-bits-of
-    element-copy-out-bits-of
-    bits-of-requires
+    mul-hashed
+    element-copy-out-hashed
     hashed-requires
     add-i
     loop-less

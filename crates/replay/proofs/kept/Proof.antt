@@ -1,13 +1,13 @@
 use borrow.Author.Needs.{needs}
-use Prim.Native.Nat.{_≤_, _<_, _-_}
-use Rattle.replay.proofs.values_kept.Statement.{statement}
-use Rattle.replay.proofs.values_kept.Tie as tie
+use Prim.Native.Nat.{_-_}
+use Rattle.replay.proofs.kept.Statement.{statement}
+use Rattle.replay.proofs.kept.Tie as tie
 
 abbrev Inv-loop : tie.InvT-loop
-Inv-loop values from i₀ i = Unit {0}
+Inv-loop words from before i₀ i = Unit {0}
 
 abbrev μ-loop : tie.MeasureT-loop
-μ-loop values from i₀ i = 4240 - i
+μ-loop words from before i₀ i = 4240 - i
 
 loop-holds : tie.Need-loop-holds Inv-loop μ-loop
 loop-holds c = search needs
@@ -17,9 +17,6 @@ mul-if1 c = search needs
 
 element-copy-out-if1 : tie.Need-element-copy-out-if1 Inv-loop μ-loop
 element-copy-out-if1 c = search needs
-
-value-before-requires : tie.Need-value-before-requires Inv-loop μ-loop
-value-before-requires c κs = search needs
 
 returns : tie.Need-returns Inv-loop μ-loop
 returns c = search needs
@@ -36,8 +33,8 @@ loop-again c = search needs
 returns-2 : tie.Need-returns-2 Inv-loop μ-loop
 returns-2 c = search needs
 
-pub values-kept-spec : {M : Type 1} → statement M
-values-kept-spec =
+pub kept-spec : {M : Type 1} → statement M
+kept-spec =
     tie.close
     (tie.spec
     Inv-loop
@@ -45,7 +42,6 @@ values-kept-spec =
     loop-holds
     mul-if1
     element-copy-out-if1
-    value-before-requires
     returns
     add-i
     loop-less
