@@ -1,5 +1,5 @@
 // Whether a palette is accepted: the numbers 1, 2 and 11 to 15, in that order.
-// `fault` answers for all arguments; inner functions require what the tests before them have shown.
+// Open functions answer for all arguments; inner ones require what the tests before them have shown.
 use context::Index;
 use context::Level;
 ghost use mathlib.Core.Path.{_≡_};
@@ -13,7 +13,7 @@ ghost use Rattle.literals.specs.Literals.{levelsOk};
 ghost use Rattle.accept.specs.Palette.{firstColors, paletteOf};
 ghost use Rattle.accept.specs.Accepted.{sidesOk, colorsOk, orientOk, lineOk, refusal};
 
-fn within(low: usize, high: usize, x: usize) -> bool
+pub fn within(low: usize, high: usize, x: usize) -> bool
     ensures { λ r. ⌜ r ≡ within low high x ⌝ }
 {
     if x < low {
@@ -22,7 +22,7 @@ fn within(low: usize, high: usize, x: usize) -> bool
     x <= high
 }
 
-fn sides_ok(width: usize, height: usize) -> bool
+pub fn sides_ok(width: usize, height: usize) -> bool
     ensures { λ r. ⌜ r ≡ sidesOk width height ⌝ }
 {
     if within(1, 64, width) {
@@ -74,7 +74,7 @@ fn colors_ok(colors: [u16; 8], n: usize, bd: u32) -> bool
 }
 
 // A transposed palette has both sides below 64.
-fn orient_ok(width: usize, height: usize, transposed: bool) -> bool
+pub fn orient_ok(width: usize, height: usize, transposed: bool) -> bool
     ensures { λ r. ⌜ r ≡ orientOk width height transposed ⌝ }
 {
     if transposed {

@@ -1,5 +1,5 @@
--- Laws of the text form: what a counted loop has left, and lengths. Assumes nothing.
-use Prim.Native.Nat.{ℕ, zero, suc, _+_, _*_, _-_, _<_, _≤_, min}
+-- Laws of the text form: digits, lengths, and the room of a row. Assumes nothing.
+use Prim.Native.Nat.{ℕ, zero, suc, _+_, _*_, _<_, _≤_, min}
 use mathlib.Core.Path.{_≡_, refl, sym, ap, _∙_}
 use mathlib.Core.Bool.{true}
 use mathlib.Core.List.{List, [], _∷_, _++_}
@@ -10,13 +10,6 @@ use lib.ListN.{length, length-append}
 use borrow.Author.Tests.{leb-true}
 use Rattle.lists.proofs.Choice.{and-l}
 use Rattle.fields.specs.Fields.{isDigit, lineNumbers, rowNumbers, cut}
-
--- at turn i of k: one more, or none
-pub one-left : (k i : ℕ) → i < k → k - i ≡ suc (k - (i + 1))
-one-left k i h = omega arith
-
-pub none-left : (k i : ℕ) → k ≤ i → k - i ≡ 0
-none-left k i h = omega arith
 
 pub digit-least : (b : ℕ) → isDigit b ≡ true → 48 ≤ b
 unfolding isDigit

@@ -6,7 +6,7 @@ use native.Mathlib.Numerals.{add-one}
 use native.Mathlib.Omega.{arith}
 use lib.Ieee.{Float, nan}
 use lib.ListN.{length, take, drop, getD, set, length-map}
-use lib.Seq.{take-suc, drop-cons, set-at, append-snoc, length-take-le, getD-take}
+use lib.Seq.{take-length, take-suc, drop-cons, set-at, append-snoc, length-take-le, getD-take}
 use Rattle.listing.specs.Listing.{valuesOf}
 
 pub value-more : (f : ℕ → Float) (m : List ℕ) (v : List Float) (i : ℕ) → i < length m → length m ≤ length v
@@ -20,8 +20,7 @@ value-more f m v i h g =
     ∙ ap (λ (l : List Float). l ++ drop (suc i) v) (sym (map-append f (take i m) (getD m i 0 ∷ []))))
 
 pub take-all : (m : List ℕ) → take (length m) m ≡ m
-take-all [] = refl
-take-all (x ∷ xs) = ap (λ (l : List ℕ). x ∷ l) (take-all xs)
+take-all m = take-length m
 
 map-same : (f g : ℕ → Float) (m : List ℕ) → ((i : ℕ) → i < length m → f (getD m i 0) ≡ g (getD m i 0)) → map f m ≡ map g m
 map-same f g [] h = refl

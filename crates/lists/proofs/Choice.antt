@@ -1,8 +1,9 @@
 -- A choice by a test, and a chain of refusals read back from 'the number is 0'. Assumes nothing.
-use mathlib.Core.Bool.{Bool, true, false, cond, _&&_, _||_, false≢true}
-use mathlib.Core.Path.{_≡_, refl}
+use mathlib.Core.Bool.{Bool, true, false, cond, not, _&&_, _||_, false≢true}
+use mathlib.Core.Path.{_≡_, refl, sym, _∙_}
 use Prim.Native.Nat.{ℕ, suc}
 use native.Mathlib.Omega.{arith}
+use borrow.Author.Tests.{not-true, not-false}
 
 pub cond-same : {A : Type 0} (t : Bool) (a : A) → cond t a a ≡ a
 cond-same true a = refl
@@ -25,6 +26,13 @@ passed false k x e = (refl, e)
 pub held : (t : Bool) (k x : ℕ) → cond t x (suc k) ≡ 0 → (t ≡ true) × (x ≡ 0)
 held true k x e = (refl, e)
 held false k x e = absurd (suc-not-zero k e)
+
+-- `if !r` in the code, where r is the test t: it fails in the branch, and holds after it
+pub fails : (r t : Bool) → r ≡ t → not r ≡ true → t ≡ false
+fails r t e n = sym e ∙ not-true r n
+
+pub holds : (r t : Bool) → r ≡ t → not r ≡ false → t ≡ true
+holds r t e n = sym e ∙ not-false r n
 
 pub and-l : (a b : Bool) → a && b ≡ true → a ≡ true
 and-l true b e = refl

@@ -36,6 +36,11 @@ allBelow-not f n i h e = go (allBelow f n) (λ t. allBelow-at f n t i h)
     go false k = refl
     go true k = let z : true ≡ false = cc (k refl) in absurd (true≢false z)
 
+pub allBelow-same : (f g : ℕ → Bool) (n : ℕ) → ((i : ℕ) → f i ≡ g i) → allBelow f n ≡ allBelow g n
+unfolding allBelow
+allBelow-same f g zero e = refl
+allBelow-same f g (suc n) e = rw (e n, allBelow-same f g n e) refl
+
 pub allIn-at : (f : ℕ → Bool) (l : List ℕ) → allIn f l ≡ true → (i : ℕ) → i < length l → f (getD l i 0) ≡ true
 unfolding allIn
 allIn-at f [] e i h = absurd (omega arith)

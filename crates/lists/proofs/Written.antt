@@ -25,6 +25,10 @@ written-append l at (x ∷ xs) ys =
     let e : at + suc (length xs) ≡ at + 1 + length xs = omega arith in
     rw e (written-append (set l at x) (at + 1) xs ys)
 
+pub then : (l m : List ℕ) (at pos : ℕ) (us vs : List ℕ) → m ≡ written l at us → pos ≡ at + length us
+    → written m pos vs ≡ written l at (us ++ vs)
+then l m at pos us vs e p = rw (e, p) (written-append l at us vs)
+
 -- one more piece of a counted list; and where each piece is one word
 pub written-more : (f : ℕ → List ℕ) (l : List ℕ) (at n : ℕ)
     → written (written l at (upTo f n)) (at + length (upTo f n)) (f n) ≡ written l at (upTo f (n + 1))

@@ -7,7 +7,7 @@ use native.Mathlib.Omega.{arith}
 use lib.Dec.{eqb}
 use lib.ListN.{length, set, length-append}
 use Rattle.lists.specs.Written.{written}
-use Rattle.lists.proofs.Written.{written-append}
+use Rattle.lists.proofs.Written.{written-append, then}
 use Rattle.printing.specs.Printing.{digits, field, line, callLine, callLines, listed, refused}
 
 -- ---- lengths
@@ -46,10 +46,6 @@ unfolding refused
 length-refused k = length-line (0 ∷ k ∷ [])
 
 -- ---- one piece behind the other
-
-pub then : (l m : List ℕ) (at pos : ℕ) (us vs : List ℕ) → m ≡ written l at us → pos ≡ at + length us
-    → written m pos vs ≡ written l at (us ++ vs)
-then l m at pos us vs e p = rw (e, p) (written-append l at us vs)
 
 pub field-then : (l m : List ℕ) (at pos v : ℕ) (vs : List ℕ) → m ≡ written l at (field v) → pos ≡ at + 8
     → written m pos (line vs) ≡ written l at (line (v ∷ vs))

@@ -1,29 +1,29 @@
 -- From what was read into the lent slices to the answer. Assumes nothing.
-use Prim.Native.Nat.{ℕ, _+_, _*_, _≤_}
+use Prim.Native.Nat.{ℕ, _*_, _≤_}
 use mathlib.Core.Path.{_≡_, refl, sym, ap, _∙_, subst}
 use mathlib.Core.Bool.{Bool, true, false, cond, _&&_}
 use mathlib.Core.List.{List}
 use native.Mathlib.Omega.{arith}
 use lib.Dec.{eqb}
-use lib.ListN.{length, take, drop}
-use lib.Seq.{take-at}
+use lib.ListN.{length, take}
 use borrow.Author.Tests.{eqb-true, eq-eqb, ne-eqb, le-leb}
-use Rattle.lists.specs.Written.{written, front}
-use Rattle.lists.proofs.Written.{written-front}
-use Rattle.lists.proofs.Choice.{and-l, and-r}
+use Rattle.lists.specs.Written.{written}
+use Rattle.lists.proofs.Written.{written-take}
+use Rattle.lists.proofs.Choice.{either-way, and-l, and-r}
 use Rattle.fields.specs.Fields.{isLine, areRows, lineNumbers, rowNumbers, cut}
 use Rattle.fields.proofs.Laws.{length-cut, length-line, length-rows}
-use Rattle.printing.specs.Printing.{listed, refused}
+use Rattle.printing.specs.Printing.{refused}
 use Rattle.printing.proofs.Laws.{length-listed, length-refused}
 use Rattle.accept.specs.Palette.{Palette, firstColors, paletteOf}
 use Rattle.accept.specs.Accepted.{refusal}
+use Rattle.accept.proofs.Accepted.{accepted-of-zero}
 use Rattle.listing.specs.Listing.{callList}
+use Rattle.listing.proofs.Length.{list-few}
 use Rattle.text.specs.declared.Header.{Header}
-use Rattle.text.specs.Text.{most, headerAt, refusedHeader, Small, linesIn, placesOf, isBody, textNumber, readHeader, cacheAt, paletteAt}
+use Rattle.text.specs.Text.{most, headerAt, Small, linesIn, placesOf, isBody, textNumber, readHeader, cacheAt, paletteAt}
 use Rattle.text.specs.Answer.{shown, answer}
 use Rattle.text.proofs.Sound.{lines-small, cells-small, in-form, read-whole}
 use Rattle.text.proofs.Cut.{cutPalette, refusal-cut, accepted-cut, line-kept}
-use Rattle.text.proofs.Room.{list-most}
 
 -- ---- a palette's answer
 
@@ -40,11 +40,23 @@ module _ (w h bd : ℕ) (cache : List ℕ) (p : Palette) where
   most-by : (t : Bool) → eqb (refusal w h bd (length cache) p) 0 ≡ t → length (shown w h bd cache p) ≤ 105859
   unfolding shown
   most-by true e =
-      rw e (omega (arith, length-listed (callList w h bd cache p), list-most w h bd (length cache) cache p refl (eqb-true _ _ e)))
+      rw e (omega (arith, length-listed (callList w h bd cache p), list-few w h bd cache p (accepted-of-zero w h bd cache p (eqb-true _ _ e))))
   most-by false e = rw e (omega (arith, length-refused (refusal w h bd (length cache) p)))
 
-  pub shown-most : length (shown w h bd cache p) ≤ 105859
+  shown-most : length (shown w h bd cache p) ≤ 105859
   shown-most = most-by (eqb (refusal w h bd (length cache) p) 0) refl
+
+-- the longest answer: the count's line and a line for each of 4,234 calls
+pub answer-most : (s : List ℕ) → length (answer s) ≤ 105859
+unfolding answer
+answer-most s =
+    let h = headerAt s 0 in
+    let few : (k : ℕ) → length (refused k) ≤ 105859 = λ k. omega (arith, length-refused k) in
+    let within : List ℕ → Type 0 = λ l. length l ≤ 105859 in
+    either-way within (eqb (textNumber s 0) 0) _ _
+    (either-way within (eqb (placesOf h 0 .end) (length s)) _ _
+    (shown-most (h .width) (h .height) (h .bd) (cacheAt s 0 h) (paletteAt s 0 h)) (few 17))
+    (few (textNumber s 0))
 
 -- ---- the program's three ends
 
@@ -97,10 +109,9 @@ module _ (s : List ℕ) (h : Header) (e : h ≡ readHeader s 0) where
 
 -- the front of a slice into which a list was written
 taken : (l vs : List ℕ) (n : ℕ) → length vs ≡ n → n ≤ length l → take n (written l 0 vs) ≡ vs
-unfolding front
 taken l vs n e h =
     let k : length vs ≤ length l = omega arith in
-    rw (written-front l vs k) (take-at vs (drop (length vs) l) n e)
+    rw (← e) (written-take l vs k)
 
 -- colours, cache, flags and map at exit, cut to their counts, give the answer
 pub read-shown : (s : List ℕ) (h : Header) → h ≡ readHeader s 0 → Small h → h .number ≡ 0 → placesOf h 0 .end ≡ length s

@@ -2,7 +2,7 @@
 -- was cut. So the tests are those of the text's own numbers. Assumes nothing.
 use Prim.Native.Nat.{ℕ, zero, suc, _+_, _*_, _-_, _^_, _≤_, _<_, min}
 use mathlib.Core.Path.{_≡_, refl, sym, ap, _∙_}
-use mathlib.Core.Bool.{Bool, true, false, cond, _&&_, true≢false, false≢true}
+use mathlib.Core.Bool.{Bool, true, false, _&&_, true≢false, false≢true}
 use mathlib.Core.List.{List, [], _∷_}
 use native.Mathlib.Nat.{min-eq-left, min-eq-right, le-of-lt, pow-le-pow-right}
 use native.Mathlib.Omega.{arith}
@@ -11,8 +11,8 @@ use lib.ListN.{length, getD}
 use lib.Seq.{ext-getD}
 use borrow.Author.Tests.{leb-true, leb-false, eqb-true, lt-leb, le-ltb}
 use Rattle.lists.specs.Counted.{within, allBelow, allIn, ascending}
-use Rattle.lists.proofs.Choice.{held, and-l, and-r}
-use Rattle.lists.proofs.Counted.{allBelow-at}
+use Rattle.lists.proofs.Choice.{held, and-l, and-r, and-false}
+use Rattle.lists.proofs.Counted.{within-at, allBelow-at, allBelow-same}
 use Rattle.context.specs.Map.{linesOf, lengthOf, lineCell}
 use Rattle.literals.specs.Literals.{levelsOk}
 use Rattle.accept.specs.Palette.{Palette}
@@ -21,7 +21,6 @@ use Rattle.fields.specs.Fields.{fieldAt, numberOf, numberUpTo, isLine, lineNumb
 use Rattle.fields.specs.declared.Field.{Field}
 use Rattle.fields.specs.declared.Field.the-variants.{Blank, Number, Bad}
 use Rattle.fields.proofs.Laws.{length-cut}
-use Rattle.text.proofs.Sound.{within-most}
 
 -- ---- a test that fails from the limit on does not see the cut, and what passes it was not cut
 
@@ -54,15 +53,6 @@ getD-cut limit [] i = sym (min-eq-left (omega arith))
 getD-cut limit (v ∷ vs) zero = refl
 getD-cut limit (v ∷ vs) (suc i) = getD-cut limit vs i
 
-allBelow-same : (f g : ℕ → Bool) (n : ℕ) → ((i : ℕ) → f i ≡ g i) → allBelow f n ≡ allBelow g n
-unfolding allBelow
-allBelow-same f g zero e = refl
-allBelow-same f g (suc n) e = rw (e n, allBelow-same f g n e) refl
-
-and-false : (a : Bool) → a && false ≡ false
-and-false true = refl
-and-false false = refl
-
 -- ---- colours
 
 abbrev levelTest : ℕ → ℕ → Bool
@@ -73,7 +63,7 @@ module _ (bd : ℕ) (cs : List ℕ) (d : depthOk bd ≡ true) where
   unfolding depthOk
   high-level i h =
       let two : 0 < 2 = omega arith in
-      let k : 2 ^ bd ≤ 2 ^ 12 = pow-le-pow-right two (within-most 8 12 bd d) in
+      let k : 2 ^ bd ≤ 2 ^ 12 = pow-le-pow-right two (within-at 8 12 bd d .1) in
       lt-leb i (2 ^ bd - 1) (omega arith)
 
   colors-by : (t : Bool) → allIn (levelTest bd) cs ≡ t → colorsOk bd (cut 65535 cs) ≡ colorsOk bd cs
@@ -93,9 +83,9 @@ module _ (bd : ℕ) (cs : List ℕ) (d : depthOk bd ≡ true) where
       all-kept (levelTest bd) 65535 high-level cs
       (and-r (ascending cs) l (and-r (within 2 8 (length cs)) (ascending cs && l) e))
 
-pub colors-few : (bd : ℕ) (cs : List ℕ) → colorsOk bd cs ≡ true → length cs ≤ 8
+colors-few : (bd : ℕ) (cs : List ℕ) → colorsOk bd cs ≡ true → length cs ≤ 8
 unfolding colorsOk
-colors-few bd cs e = within-most 2 8 (length cs) (and-l (within 2 8 (length cs)) (levelsOk bd cs) e)
+colors-few bd cs e = within-at 2 8 (length cs) (and-l (within 2 8 (length cs)) (levelsOk bd cs) e) .1
 
 -- ---- flags and map
 

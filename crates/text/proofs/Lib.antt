@@ -2,5 +2,4 @@ pub mod Sound
 pub mod Cut
 pub mod Long
 pub mod Within
-pub mod Room
 pub mod Answered

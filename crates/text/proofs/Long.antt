@@ -3,12 +3,12 @@
 use Prim.Native.Nat.{ℕ, zero, suc, _+_, _*_, _≤_, _<_}
 use mathlib.Core.Path.{_≡_, refl, sym, ap, _∙_}
 use mathlib.Core.Bool.{Bool, true, false, cond}
-use mathlib.Core.List.{List, [], _∷_}
+use mathlib.Core.List.{List}
 use native.Mathlib.Nat.{suc-mul, le-of-lt, zero-add}
 use native.Mathlib.Omega.{arith}
 use lib.Dec.{leb, eqb}
 use lib.ListN.{length, getD, take}
-use lib.Seq.{getD-take, length-take-le}
+use lib.Seq.{take-all, getD-take, length-take-le}
 use borrow.Author.Tests.{leb-true, leb-false, eqb-true, ne-eqb}
 use Rattle.fields.specs.declared.Field.{Field}
 use Rattle.fields.specs.declared.Field.the-variants.{Blank}
@@ -118,12 +118,6 @@ module _ (k room : ℕ) (s u : List ℕ) (same : (i : ℕ) → i < room → getD
       read-same = rw (number-same, header-same (omega arith)) refl
 
 -- ---- the answer
-
-take-all : (n : ℕ) (l : List ℕ) → length l ≤ n → take n l ≡ l
-take-all zero [] h = refl
-take-all zero (x ∷ l) h = absurd (omega arith)
-take-all (suc n) [] h = refl
-take-all (suc n) (x ∷ l) h = ap (λ (m : List ℕ). x ∷ m) (take-all n l (omega arith))
 
 module _ (s : List ℕ) (long : 33972 < length s) where
   long-by : (t : Bool) → eqb (textNumber s 0) 0 ≡ t → answer s ≡ refused (cond t 17 (textNumber s 0))

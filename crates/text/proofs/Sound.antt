@@ -1,43 +1,35 @@
 -- A header without a fault is small; what a number of 0 says of a text, and how reading a palette ends. Assumes nothing.
 use Prim.Native.Nat.{ℕ, _+_, _*_, _≤_}
 use mathlib.Core.Path.{_≡_, refl, sym, _∙_, subst}
-use mathlib.Core.Bool.{Bool, true, false, cond, not, _&&_, true≢false}
+use mathlib.Core.Bool.{Bool, true, false, cond, _&&_, true≢false}
 use mathlib.Core.List.{List}
 use native.Mathlib.Nat.{mul-le-mul}
 use native.Mathlib.Omega.{arith}
 use lib.Dec.{eqb, leb}
-use borrow.Author.Tests.{leb-true, eqb-true, eq-eqb, ne-eqb, not-true, not-false}
+use borrow.Author.Tests.{leb-true, eqb-true, eq-eqb, ne-eqb}
 use Rattle.lists.specs.Counted.{within}
-use Rattle.lists.proofs.Choice.{held, and-l, and-r, either-way}
+use Rattle.lists.proofs.Choice.{held, either-way}
+use Rattle.lists.proofs.Counted.{within-at}
 use Rattle.fields.specs.Fields.{isLine}
 use Rattle.accept.specs.Accepted.{sidesOk, depthOk, orientOk, cacheOk}
+use Rattle.accept.proofs.Accepted.{sides-at}
 use Rattle.text.specs.declared.Header.{Header}
 use Rattle.text.specs.Text.{most, numberAt, headerAt, refusedHeader, headerFault, Small, linesIn, placesOf, isBody, textNumber, readHeader}
 
--- ---- a test in the code, whose result is known
-
-pub fails : (r t : Bool) → r ≡ t → not r ≡ true → t ≡ false
-fails r t e n = sym e ∙ not-true r n
-
-pub holds : (r t : Bool) → r ≡ t → not r ≡ false → t ≡ true
-holds r t e n = sym e ∙ not-false r n
-
 -- ---- bounds
 
-pub within-most : (a b x : ℕ) → within a b x ≡ true → x ≤ b
-within-most a b x e = leb-true x b (and-r (leb a x) (leb x b) e)
-
 pub sound : (h : Header) → headerFault h ≡ 0 → Small h
-unfolding headerFault sidesOk cacheOk
+unfolding headerFault cacheOk
 sound h e =
     let a = held (sidesOk (h .width) (h .height)) 0 _ e in
     let b = held (depthOk (h .bd)) 1 _ (a .1) in
     let c = held (within 2 8 (h .n)) 10 _ (b .1) in
     let d = held (orientOk (h .width) (h .height) (h .transposed)) 11 _ (c .1) in
+    let s = sides-at (h .width) (h .height) (a .0) in
     record {
-      width = within-most 1 64 (h .width) (and-l (within 1 64 (h .width)) (within 1 64 (h .height)) (a .0));
-      height = within-most 1 64 (h .height) (and-r (within 1 64 (h .width)) (within 1 64 (h .height)) (a .0));
-      colors = within-most 2 8 (h .n) (c .0);
+      width = s .0 .1;
+      height = s .1 .1;
+      colors = within-at 2 8 (h .n) (c .0) .1;
       cached = leb-true (h .cached) 64 (held (cacheOk (h .cached)) 12 _ (d .1) .0);
     }
 

@@ -5,10 +5,8 @@ ghost use mathlib.Core.Bool.{cond};
 ghost use Prim.Native.Nat.{_+_, _*_, _<_, _≤_};
 ghost use lib.Dec.{eqb};
 ghost use lib.ListN.{length};
-ghost use Rattle.lists.specs.Counted.{within};
 ghost use Rattle.lists.specs.Written.{written};
 ghost use Rattle.fields.specs.Fields.{cut};
-ghost use Rattle.accept.specs.Accepted.{sidesOk, orientOk};
 ghost use Rattle.text.specs.Text.{headerAt, refusedHeader, headerFault, Small, linesIn, placesOf, isBody, textNumber, cacheAt, paletteAt, readHeader};
 
 // The number of a refusal and zeros, or 0 and the header's fields.
@@ -31,37 +29,19 @@ pub struct Places {
     pub end: usize,
 }
 
-fn in_range(a: usize, b: usize, x: usize) -> bool
-    ensures { λ r. ⌜ r ≡ within a b x ⌝ }
-{
-    (a <= x) & (x <= b)
-}
-
-fn sides_ok(width: usize, height: usize) -> bool
-    ensures { λ r. ⌜ r ≡ sidesOk width height ⌝ }
-{
-    in_range(1, 64, width) & in_range(1, 64, height)
-}
-
-fn orient_ok(width: usize, height: usize, transposed: bool) -> bool
-    ensures { λ r. ⌜ r ≡ orientOk width height transposed ⌝ }
-{
-    !transposed | ((width < 64) & (height < 64))
-}
-
 fn header_fault(h: Header) -> u32
     ensures { λ r. ⌜ r ≡ headerFault h ⌝ }
 {
-    if !sides_ok(h.width, h.height) {
+    if !accept::sides_ok(h.width, h.height) {
         return 1;
     }
-    if !in_range(8, 12, h.bd as usize) {
+    if !accept::within(8, 12, h.bd as usize) {
         return 2;
     }
-    if !in_range(2, 8, h.n) {
+    if !accept::within(2, 8, h.n) {
         return 11;
     }
-    if !orient_ok(h.width, h.height, h.transposed) {
+    if !accept::orient_ok(h.width, h.height, h.transposed) {
         return 12;
     }
     if h.cached > 64 {

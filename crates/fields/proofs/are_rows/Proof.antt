@@ -3,7 +3,7 @@ use native.Mathlib.Nat.{sub-zero}
 use native.Mathlib.Omega.{arith}
 use Prim.Native.Nat.{_≤_, _+_, _-_, _*_}
 use borrow.Author.Needs.{needs}
-use Rattle.fields.proofs.Laws.{one-left, none-left}
+use Rattle.lists.proofs.Rest.{one-left, none-left}
 use Rattle.fields.specs.Fields.{areRows}
 use mathlib.Core.Path.{_≡_, refl, sym, _∙_}
 use Rattle.fields.proofs.are_rows.Statement.{statement}

@@ -1,4 +1,4 @@
-use Rattle.fields.proofs.Laws.{one-left, none-left}
+use Rattle.lists.proofs.Rest.{one-left, none-left}
 use native.Mathlib.Omega.{arith}
 use Prim.Native.Nat.{_≤_, _+_, _-_}
 use borrow.Author.Needs.{needs}

@@ -4,7 +4,7 @@ use native.Mathlib.Nat.{sub-zero}
 use native.Mathlib.Omega.{arith}
 use Prim.Native.Nat.{_≤_, _+_, _-_, _*_}
 use borrow.Author.Needs.{needs}
-use Rattle.fields.proofs.Laws.{one-left, none-left}
+use Rattle.lists.proofs.Rest.{one-left, none-left}
 use Rattle.fields.specs.Fields.{lineNumbers, cut}
 use mathlib.Core.Path.{_≡_, refl, sym}
 use Rattle.fields.proofs.read8.Statement.{statement}

@@ -7,7 +7,8 @@ use denote.Ref.{now}
 use native.Mathlib.Omega.{arith}
 use Prim.Native.Nat.{_≤_, _+_, _-_, _*_}
 use borrow.Author.Needs.{needs}
-use Rattle.fields.proofs.Laws.{one-left, none-left, length-line, length-cut, cut-append, row-room}
+use Rattle.lists.proofs.Rest.{one-left, none-left}
+use Rattle.fields.proofs.Laws.{length-line, length-cut, cut-append, row-room}
 use Rattle.fields.specs.Fields.{lineNumbers, rowNumbers, cut}
 use mathlib.Core.Path.{_≡_, refl, sym, _∙_}
 use Rattle.fields.proofs.read_rows.Statement.{statement}

@@ -8,7 +8,8 @@ use lib.Seq.{drop-cons}
 use denote.Ref.{now}
 use Rattle.lists.specs.Written.{written}
 use Rattle.printing.specs.Printing.{callLine, callLines}
-use Rattle.printing.proofs.Laws.{length-call, then}
+use Rattle.lists.proofs.Written.{then}
+use Rattle.printing.proofs.Laws.{length-call}
 use native.Mathlib.Numerals.{add-one}
 use Rattle.printing.proofs.print_calls.Statement.{statement}
 use Rattle.printing.proofs.print_calls.Tie as tie

@@ -5,7 +5,8 @@ use mathlib.Core.List.{[], _∷_}
 use lib.ListN.{length}
 use denote.Ref.{now}
 use Rattle.printing.specs.Printing.{listed}
-use Rattle.printing.proofs.Laws.{length-line, length-listed, then, field-then}
+use Rattle.lists.proofs.Written.{then}
+use Rattle.printing.proofs.Laws.{length-line, length-listed, field-then}
 use Rattle.printing.proofs.print_listed.Statement.{statement}
 use Rattle.printing.proofs.print_listed.Tie as tie
 

@@ -3,7 +3,7 @@ use borrow.Author.Tests.{le-leb, lt-leb}
 use mathlib.Core.Path.{sym}
 use Rattle.accept.specs.Accepted.{depthOk, cacheOk}
 use Rattle.text.specs.Text.{headerFault}
-use Rattle.text.proofs.Sound.{fails, holds}
+use Rattle.lists.proofs.Choice.{fails, holds}
 use Rattle.text.proofs.header_fault.Statement.{statement}
 use Rattle.text.proofs.header_fault.Tie as tie
 
@@ -14,18 +14,18 @@ returns : tie.Need-returns
 unfolding headerFault depthOk
 returns c = sym (simp (fails _ _ (c .before .sides-ok .ensures) (c .if1 .taken)))
 
-cast-in-range : tie.Need-cast-in-range
-cast-in-range c = search needs
+cast-within : tie.Need-cast-within
+cast-within c = search needs
 
-in-range-requires : tie.Need-in-range-requires
-in-range-requires c κs = search needs
+within-requires : tie.Need-within-requires
+within-requires c κs = search needs
 
 returns-2 : tie.Need-returns-2
 unfolding headerFault depthOk
-returns-2 c = sym (simp (holds _ _ (c .before .before .before .before .sides-ok .ensures) (c .before .before .before .if1 .left), fails _ _ (c .before .in-range .ensures) (c .if2 .taken)))
+returns-2 c = sym (simp (holds _ _ (c .before .before .before .before .sides-ok .ensures) (c .before .before .before .if1 .left), fails _ _ (c .before .within .ensures) (c .if2 .taken)))
 
-in-range-requires-2 : tie.Need-in-range-requires-2
-in-range-requires-2 c κs = search needs
+within-requires-2 : tie.Need-within-requires-2
+within-requires-2 c κs = search needs
 
 returns-3 : tie.Need-returns-3
 unfolding headerFault depthOk
@@ -33,8 +33,8 @@ returns-3 c =
     sym
     (simp (
       holds _ _ (c .before .before .before .before .before .before .sides-ok .ensures) (c .before .before .before .before .before .if1 .left),
-      holds _ _ (c .before .before .before .in-range .ensures) (c .before .before .if2 .left),
-      fails _ _ (c .before .in-range2 .ensures) (c .if3 .taken),
+      holds _ _ (c .before .before .before .within .ensures) (c .before .before .if2 .left),
+      fails _ _ (c .before .within2 .ensures) (c .if3 .taken),
     ))
 
 orient-ok-requires : tie.Need-orient-ok-requires
@@ -46,8 +46,8 @@ returns-4 c =
     sym
     (simp (
       holds _ _ (c .before .before .before .before .before .before .before .before .sides-ok .ensures) (c .before .before .before .before .before .before .before .if1 .left),
-      holds _ _ (c .before .before .before .before .before .in-range .ensures) (c .before .before .before .before .if2 .left),
-      holds _ _ (c .before .before .before .in-range2 .ensures) (c .before .before .if3 .left),
+      holds _ _ (c .before .before .before .before .before .within .ensures) (c .before .before .before .before .if2 .left),
+      holds _ _ (c .before .before .before .within2 .ensures) (c .before .before .if3 .left),
       fails _ _ (c .before .orient-ok .ensures) (c .if4 .taken),
     ))
 
@@ -57,8 +57,8 @@ returns-5 c =
     sym
     (simp (
       holds _ _ (c .before .before .before .before .before .before .before .before .before .before .sides-ok .ensures) (c .before .before .before .before .before .before .before .before .before .if1 .left),
-      holds _ _ (c .before .before .before .before .before .before .before .in-range .ensures) (c .before .before .before .before .before .before .if2 .left),
-      holds _ _ (c .before .before .before .before .before .in-range2 .ensures) (c .before .before .before .before .if3 .left),
+      holds _ _ (c .before .before .before .before .before .before .before .within .ensures) (c .before .before .before .before .before .before .if2 .left),
+      holds _ _ (c .before .before .before .before .before .within2 .ensures) (c .before .before .before .before .if3 .left),
       holds _ _ (c .before .before .before .orient-ok .ensures) (c .before .before .if4 .left),
       lt-leb _ _ (c .if5 .taken),
     ))
@@ -69,8 +69,8 @@ returns-6 c =
     sym
     (simp (
       holds _ _ (c .before .before .before .before .before .before .before .before .before .before .sides-ok .ensures) (c .before .before .before .before .before .before .before .before .before .if1 .left),
-      holds _ _ (c .before .before .before .before .before .before .before .in-range .ensures) (c .before .before .before .before .before .before .if2 .left),
-      holds _ _ (c .before .before .before .before .before .in-range2 .ensures) (c .before .before .before .before .if3 .left),
+      holds _ _ (c .before .before .before .before .before .before .before .within .ensures) (c .before .before .before .before .before .before .if2 .left),
+      holds _ _ (c .before .before .before .before .before .within2 .ensures) (c .before .before .before .before .if3 .left),
       holds _ _ (c .before .before .before .orient-ok .ensures) (c .before .before .if4 .left),
       le-leb _ _ (c .if5 .left),
     ))
@@ -81,10 +81,10 @@ header-fault-spec =
     (tie.spec
     sides-ok-requires
     returns
-    cast-in-range
-    in-range-requires
+    cast-within
+    within-requires
     returns-2
-    in-range-requires-2
+    within-requires-2
     returns-3
     orient-ok-requires
     returns-4
