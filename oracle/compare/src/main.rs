@@ -2,6 +2,7 @@
 
 mod contexts;
 mod lists;
+mod share;
 mod station;
 mod tally;
 mod texts;
@@ -9,7 +10,8 @@ mod texts;
 use std::process::ExitCode;
 use std::time::Instant;
 
-const USAGE: &str = "usage: compare lists SEED COUNT | contexts SEED COUNT | texts SEED COUNT";
+const USAGE: &str =
+    "usage: compare lists SEED COUNT | contexts SEED COUNT | texts SEED COUNT | share SEED COUNT";
 
 fn main() -> ExitCode {
     let start = Instant::now();
@@ -36,6 +38,10 @@ fn run() -> Result<bool, String> {
         "lists" => Ok(lists::compare(seed, count)),
         "contexts" => Ok(contexts::compare(seed, count)),
         "texts" => texts::compare(seed, count),
+        "share" => {
+            share::measure(seed, count);
+            Ok(true)
+        }
         _ => Err(USAGE.to_string()),
     }
 }

@@ -1,0 +1,50 @@
+-- Both orientations of a block are sound scans. Assumes nothing.
+use Prim.Native.Nat.{ℕ, _+_, _*_, _-_, _/_, _%_, _≤_, _<_}
+use mathlib.Core.Bool.{Bool, true, false, cond}
+use mathlib.Core.Path.{_≡_, refl, sym, ap, _∙_}
+use native.Mathlib.Omega.{arith}
+use native.Mathlib.Nat.{mul-one, mul-le-mul-right, mul-le-mul-left, mul-comm, add-comm}
+use lib.Arith.{digits-lt, digits-div, digits-mod}
+use mathlib.Core.List.{List}
+use lib.ListN.{getD}
+use Rattle.map_search.specs.Lines.{scanOf, cellIn}
+use Rattle.map_search.specs.Sound.{Sound}
+
+digits-same : (w l a k b : ℕ) → a < w → b < w → l * w + a ≡ k * w + b → (l ≡ k) × (a ≡ b)
+digits-same w l a k b p q e =
+    (sym (digits-div l p) ∙ ap (λ (x : ℕ). x / w) e ∙ digits-div k q, sym (digits-mod l p) ∙ ap (λ (x : ℕ). x % w) e ∙ digits-mod k q)
+
+-- the numbers that a block may have
+small-product : (w h : ℕ) → w ≤ 64 → h ≤ 64 → w * h ≤ 4096
+small-product w h p q = omega (arith, mul-le-mul-right h p, mul-le-mul-left 64 q)
+
+pub rows-sound : (w h : ℕ) → 0 < w → w ≤ 64 → h ≤ 64 → Sound (scanOf w h false) (w * h)
+rows-sound w h z p q = record {
+  small = small-product w h p q;
+  some = z;
+  short = p;
+  few = q;
+  inside = λ l a g k. rw (mul-one a, mul-comm w h) (digits-lt g k);
+  apart = λ l a k b x y g i e. digits-same w l a k b g i (rw (mul-one a, mul-one b) at e);
+  major = λ l a. rw (mul-one a) refl;
+}
+
+pub columns-sound : (w h : ℕ) → 0 < h → w ≤ 64 → h ≤ 64 → Sound (scanOf w h true) (w * h)
+columns-sound w h z p q = record {
+  small = small-product w h p q;
+  some = z;
+  short = q;
+  few = p;
+  inside = λ l a g k. rw (mul-one l, mul-comm w h, add-comm l) (digits-lt k g);
+  apart = λ l a k b x y g i e. (let d = digits-same w a l b k x y (rw (mul-one l, mul-one k, add-comm l, add-comm k) at e) in (d .1, d .0));
+  major = λ l a. rw (mul-one l) (add-comm (a * w) l);
+}
+
+pub scan-sound : (w h : ℕ) (t : Bool) → 0 < w → w ≤ 64 → 0 < h → h ≤ 64 → Sound (scanOf w h t) (w * h)
+scan-sound w h true x p y q = columns-sound w h y p q
+scan-sound w h false x p y q = rows-sound w h x p q
+
+-- a scan's cells by row and column, as the listing's acceptance reads them
+pub line-cell : (m : List ℕ) (w h : ℕ) (t : Bool) (l a : ℕ) → cellIn m (scanOf w h t) l a ≡ getD m (cond t a l * w + cond t l a) 0
+line-cell m w h true l a = rw (mul-one l, add-comm l) refl
+line-cell m w h false l a = rw (mul-one a) refl

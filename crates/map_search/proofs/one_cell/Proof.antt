@@ -1,0 +1,61 @@
+use Rattle.map_search.specs.Lines.{cellAt}
+use Rattle.near.specs.Near.{Usable}
+use Rattle.near.proofs.Laws.{usable, same-context, same-order}
+use Rattle.map_search.specs.Lines.{placeAt}
+use Rattle.context.specs.Map.{rowAt, colAt}
+use lib.ListN.{length}
+use Prim.Native.Nat.{_-_, _<_}
+use native.Mathlib.Omega.{arith}
+use denote.Ref.{now}
+use mathlib.Core.Path.{refl, _∙_}
+use Rattle.map_search.proofs.one_cell.Statement.{statement}
+use Rattle.map_search.proofs.one_cell.Tie as tie
+
+-- BEGIN inside
+inside : (s : tie.Start) → placeAt (s .args .s) (s .args .l) (s .args .a) < length (now (s .args .src))
+inside s = s .pre .0 .0 .inside (s .args .l) (s .args .a) (s .pre .0 .2) (s .pre .0 .3)
+
+fit : (c : tie.After-near-cell) → Usable (c .near-cell .result) (c .before .before .before .before .before .before .args .n)
+fit c =
+    let s = c .before .before .before .before .before .before in
+    let a = s .args in
+    rw (c .near-cell .ensures) (usable (now (a .map)) (a .s .w) (rowAt ((a .s) .transposed) (a .l) (a .a)) (colAt ((a .s) .transposed) (a .l) (a .a)) (a .n) (s .pre .1 .3) (omega (arith, s .pre .1 .0)) (s .pre .1 .1))
+
+-- END
+place-requires : tie.Need-place-requires
+place-requires c κs = omega (arith, inside (c .before .before .before), c .before .before .before .pre .0 .0 .small)
+
+mul-x : tie.Need-mul-x
+mul-x c = omega (arith, c .place .ensures, inside (c .before .before .before .before), c .before .before .before .before .pre .0 .0 .small)
+
+shared-slice-read-x : tie.Need-shared-slice-read-x
+shared-slice-read-x c = omega (arith, c .before .place .ensures, inside (c .before .before .before .before .before))
+
+near-cell-requires : tie.Need-near-cell-requires
+near-cell-requires c κs = omega (arith, inside (c .before .before .before .before .before), c .before .before .before .before .before .pre .0 .1, c .before .before .before .before .before .pre .0 .0 .major (c .before .before .before .before .before .args .l) (c .before .before .before .before .before .args .a))
+
+add-rates : tie.Need-add-rates
+add-rates c = omega (arith, c .before .before .before .before .before .before .pre .0 .2, c .before .before .before .before .before .before .pre .0 .3, c .before .before .before .before .before .before .pre .0 .0 .short, c .before .before .before .before .before .before .pre .0 .0 .few)
+
+rates-requires : tie.Need-rates-requires
+rates-requires c κs = (c .before .before .before .before .before .before .pre .1 .0, c .before .before .before .before .before .before .pre .1 .1, fit c .context, c .before .before .before .before .before .before .pre .1 .2)
+
+choose-cell-requires : tie.Need-choose-cell-requires
+choose-cell-requires c κs = (fit (c .before .before), omega (arith, c .before .before .before .before .before .before .before .before .pre .1 .0), c .before .before .before .before .before .before .before .before .pre .1 .1)
+
+returns : tie.Need-returns
+unfolding cellAt
+returns c = let s = c .before .before .before .before .before .before .before .before .before in let a = s .args in c .choose-cell .ensures ∙ rw (c .before .before .rates .ensures, c .before .before .before .near-cell .ensures, c .before .before .before .before .before .place .ensures, same-order (now (a .map)) (a .s .w) (rowAt ((a .s) .transposed) (a .l) (a .a)) (colAt ((a .s) .transposed) (a .l) (a .a)) (a .n) (omega (arith, s .pre .1 .0)), same-context) refl
+
+pub one-cell-spec : {M : Type 1} → statement M
+one-cell-spec =
+    tie.close
+    (tie.spec
+    place-requires
+    mul-x
+    shared-slice-read-x
+    near-cell-requires
+    add-rates
+    rates-requires
+    choose-cell-requires
+    returns)

@@ -1,0 +1,4 @@
+pub mod Lines
+pub mod Sound
+pub mod Parts
+pub mod Examples

@@ -1,0 +1,44 @@
+-- What the functions within the crate answer: the steps of `build_map`. Assumes nothing.
+use Prim.Native.Nat.{ℕ, zero, suc, _+_, _≤_}
+use mathlib.Core.Bool.{true, cond}
+use mathlib.Core.Path.{_≡_}
+use mathlib.Core.List.{List, [], _∷_}
+use mathlib.Core.Logic.{_⊎_}
+use lib.Dec.{eqb}
+use lib.ListN.{getD}
+use lib.Ieee.{Float, nan, binary32, add, le}
+use Rattle.near.specs.Near.{rankBy}
+use Rattle.cells.specs.Cell.{totalOf, cheapest}
+use Rattle.cells.specs.declared.Cost.{Cost}
+use Rattle.map_search.specs.declared.Choice.{Choice}
+use Rattle.map_search.specs.declared.Scan.{Scan}
+use Rattle.map_search.specs.Lines.{cellsOf, copied, constant, constants, totalBy}
+
+module _ (samples costs colours : List Float) (n : ℕ) (lambda : Float) (s : Scan) where
+  -- the candidate that the code begins with: the copy, or on the first line the constant of index 0, which then meets itself
+  abbrev pub first : List ℕ → ℕ → ℕ → Choice
+  first m l ctx = cond (eqb l 0) (constant samples costs colours n lambda s m l ctx 0) (copied samples costs colours n lambda s m l ctx)
+
+  -- the cheapest of copy and constants
+  unfoldable pub bestOf : List ℕ → ℕ → ℕ → Choice
+  bestOf m l ctx = cheapest (totalBy samples costs colours n lambda s) (first m l ctx) (constants samples costs colours n lambda s m l ctx 0 n)
+
+-- the constant lines as the code has them: by the distances from each colour and the first cell's costs by rank, where v comes first
+abbrev pub constantBy : List Float → List Float → ℕ → Float → ℕ → Choice
+constantBy dists rates v row c = record {
+  cost = record { dist = getD dists c nan; rate = add binary32 row (getD rates (rankBy c v) nan) };
+  flag = 1;
+  index = c;
+}
+
+unfoldable pub constantsBy : List Float → List Float → ℕ → Float → ℕ → ℕ → List Choice
+constantsBy dists rates v row c zero = []
+constantsBy dists rates v row c (suc k) = constantBy dists rates v row c ∷ constantsBy dists rates v row (c + 1) k
+
+-- cell by cell up to the end of the line, or until the total has reached the limit
+pub record Halted (samples costs colours : List Float) (n : ℕ) (lambda : Float) (s : Scan) (m : List ℕ) (l : ℕ) (row limit : Float) (r : Cost) (map : List ℕ) : Type 0 where
+  pub cells : ℕ
+  pub few : cells ≤ s .len
+  pub cost : r ≡ cellsOf samples costs colours n lambda s m l row cells .cost
+  pub put : map ≡ cellsOf samples costs colours n lambda s m l row cells .map
+  pub why : (cells ≡ s .len) ⊎ (le limit (totalOf r lambda) ≡ true)

@@ -1,0 +1,434 @@
+// The map search: for each line the cheapest of copy, constant and cell by cell. Functions may have a `requires`.
+ghost use mathlib.Core.Path.{_≡_};
+ghost use Prim.Native.Nat.{_+_, _*_, _-_, _≤_, _<_};
+ghost use mathlib.Core.Bool.{cond};
+ghost use lib.Dec.{eqb};
+ghost use lib.ListN.{length, getD};
+ghost use lib.Ieee.{nan, binary32, add, lt};
+ghost use Rattle.near.specs.Near.{nearAt, rankBy, Below};
+ghost use Rattle.cells.specs.Cell.{square, totalOf, cheapest, eight};
+ghost use Rattle.map_search.specs.Lines.{scanOf, placeAt, cellIn, fill, distLine, rowCost, cellAt, copiedBy, lineOf, putLine, mapOf};
+ghost use Rattle.map_search.specs.Parts.{bestOf, Halted, constantBy, constantsBy};
+ghost use Rattle.context.specs.Map.{rowAt, colAt};
+ghost use Rattle.map_search.specs.Sound.{Sound, Priced, Built};
+ghost use Rattle.map_search.specs.declared.Choice.{Choice};
+
+// The order in which a map is walked: cell a of line l stands at l * stride + a * step.
+pub struct Scan {
+    pub w: usize,
+    pub stride: usize,
+    pub step: usize,
+    pub lines: usize,
+    pub len: usize,
+    pub transposed: bool,
+}
+
+// A line's candidate; index is that of a constant line.
+pub struct Choice {
+    pub cost: cells::Cost,
+    pub flag: u8,
+    pub index: u8,
+}
+
+pub enum MapResult {
+    Found(f32, f32),
+    Beaten,
+}
+
+pub fn scan_of(w: usize, h: usize, transposed: bool) -> Scan
+    ensures { λ r. ⌜ r ≡ scanOf w h transposed ⌝ }
+{
+    if transposed {
+        return Scan {
+            w,
+            stride: 1,
+            step: w,
+            lines: w,
+            len: h,
+            transposed: true,
+        };
+    }
+    Scan {
+        w,
+        stride: w,
+        step: 1,
+        lines: h,
+        len: w,
+        transposed: false,
+    }
+}
+
+fn place(s: Scan, l: usize, a: usize) -> usize
+    requires { ⌜ placeAt s l a < 4096 ⌝ }
+    ensures { λ r. ⌜ r ≡ placeAt s l a ⌝ }
+{
+    l * s.stride + a * s.step
+}
+
+// Eight sums, each with one square more.
+fn add_squares(t: [f32; 8], x: f32, colors: &[f32; 8]) -> [f32; 8]
+    ensures { λ r. ⌜ r ≡ eight (λ c. add binary32 (getD t c nan) (square x (getD (now (colors .entry)) c nan))) ⌝ }
+{
+    let d = cells::squares(x, colors);
+    [
+        t[0] + d[0],
+        t[1] + d[1],
+        t[2] + d[2],
+        t[3] + d[3],
+        t[4] + d[4],
+        t[5] + d[5],
+        t[6] + d[6],
+        t[7] + d[7],
+    ]
+}
+
+// The distance of line l from each colour.
+fn const_dists(src: &[f32], colors: &[f32; 8], s: Scan, l: usize) -> [f32; 8]
+    requires { ⌜ Sound s (length (now src)) × (l < s .lines) ⌝ }
+    ensures { λ r. ⌜ r ≡ eight (λ c. distLine (now (src .entry)) (now (colors .entry)) s l (λ a. c) (s .len)) ⌝ }
+{
+    let mut t = [0.0f32; 8];
+    let mut a: usize = 0;
+    while a < s.len {
+        let p = place(s, l, a);
+        let u = add_squares(t, src[p], colors);
+        t = u;
+        a += 1;
+    }
+    t
+}
+
+// The distance of line l from the line before it.
+fn copy_dist(src: &[f32], map: &[u8], colors: &[f32; 8], s: Scan, l: usize) -> f32
+    requires { ⌜ Sound s (length (now src)) × (length (now src) ≤ length (now map)) × (l < s .lines) × (0 < l) ⌝ }
+    requires { ⌜ Below (now map) 8 ⌝ }
+    ensures { λ r. ⌜ r ≡ distLine (now (src .entry)) (now (colors .entry)) s l (λ a. cellIn (now (map .entry)) s (l - 1) a) (s .len) ⌝ }
+{
+    let mut t = 0.0f32;
+    let mut a: usize = 0;
+    while a < s.len {
+        let p = place(s, l, a);
+        let q = place(s, l - 1, a);
+        let i = map[q] as usize;
+        t = t + cells::square(src[p], colors[i]);
+        a += 1;
+    }
+    t
+}
+
+fn fill_line(map: &mut [u8], s: Scan, l: usize, i: u8)
+    requires { ⌜ Sound s (length (now map)) × (l < s .lines) ⌝ }
+    ensures { λ _. ⌜ now (map .exit) ≡ fill s l (λ a. i) (now (map .entry)) (s .len) ⌝ }
+{
+    let mut a: usize = 0;
+    while a < s.len {
+        let p = place(s, l, a);
+        map[p] = i;
+        a += 1;
+    }
+}
+
+fn copy_line(map: &mut [u8], s: Scan, l: usize)
+    requires { ⌜ Sound s (length (now map)) × (l < s .lines) × (0 < l) ⌝ }
+    ensures { λ _. ⌜ now (map .exit) ≡ fill s l (λ a. cellIn (now (map .entry)) s (l - 1) a) (now (map .entry)) (s .len) ⌝ }
+{
+    let mut a: usize = 0;
+    while a < s.len {
+        let q = place(s, l - 1, a);
+        let i = map[q];
+        let p = place(s, l, a);
+        map[p] = i;
+        a += 1;
+    }
+}
+
+// The rank of index c where v alone comes first.
+fn rank_by(c: usize, v: usize) -> usize
+    requires { ⌜ (c < 8) × (v < 8) ⌝ }
+    ensures { λ r. ⌜ (r ≡ rankBy c v) × (r < 8) ⌝ }
+{
+    if c == v {
+        return 0;
+    }
+    if c < v {
+        return c + 1;
+    }
+    c
+}
+
+// The line that is all of index c; v comes first in the order at its first cell, whose costs are `rates`.
+fn constant(dists: &[f32; 8], rates: &[f32; 8], v: usize, row: f32, c: usize) -> Choice
+    requires { ⌜ (c < 8) × (v < 8) ⌝ }
+    ensures { λ r. ⌜ r ≡ constantBy (now (dists .entry)) (now (rates .entry)) v row c ⌝ }
+{
+    let k = rank_by(c, v);
+    let cost = cells::Cost {
+        dist: dists[c],
+        rate: row + rates[k],
+    };
+    Choice {
+        cost,
+        flag: 1,
+        index: c as u8,
+    }
+}
+
+// The cheaper of two, the first where they are equal.
+fn cheaper(a: Choice, b: Choice, lambda: f32) -> Choice
+    ensures { λ r. ⌜ r ≡ cond (lt (totalOf (b .cost) lambda) (totalOf (a .cost) lambda)) b a ⌝ }
+{
+    let p = a.cost;
+    let q = b.cost;
+    if cells::total(q, lambda) < cells::total(p, lambda) {
+        b
+    } else {
+        a
+    }
+}
+
+fn best_const(
+    dists: &[f32; 8],
+    rates: &[f32; 8],
+    v: usize,
+    row: f32,
+    n: usize,
+    lambda: f32,
+    from: Choice,
+) -> Choice
+    requires { ⌜ (n ≤ 8) × (v < 8) ⌝ }
+    ensures { λ r. ⌜ r ≡ cheapest (λ (c : Choice). totalOf (c .cost) lambda) from (constantsBy (now (dists .entry)) (now (rates .entry)) v row 0 n) ⌝ }
+{
+    let mut best = from;
+    let mut c: usize = 0;
+    while c < n {
+        let next = constant(dists, rates, v, row, c);
+        best = cheaper(best, next, lambda);
+        c += 1;
+    }
+    best
+}
+
+// The neighbours of cell a of line l.
+fn near_cell(map: &[u8], s: Scan, l: usize, a: usize) -> near::Near
+    requires { ⌜ rowAt (s .transposed) l a * s .w + colAt (s .transposed) l a < length (now map) ⌝ }
+    ensures { λ r. ⌜ r ≡ nearAt (now (map .entry)) (s .w) (rowAt (s .transposed) l a) (colAt (s .transposed) l a) ⌝ }
+{
+    if s.transposed {
+        return near::near_at(map, s.w, a, l);
+    }
+    near::near_at(map, s.w, l, a)
+}
+
+// The cheapest index of cell a of line l.
+fn one_cell(
+    src: &[f32],
+    map: &[u8],
+    costs: &[f32],
+    colors: &[f32; 8],
+    s: Scan,
+    l: usize,
+    a: usize,
+    n: usize,
+    lambda: f32,
+) -> cells::Cell
+    requires { ⌜ Sound s (length (now src)) × (length (now src) ≤ length (now map)) × (l < s .lines) × (a < s .len) ⌝ }
+    requires { ⌜ (2 ≤ n) × (n ≤ 8) × (length (now costs) ≡ 301) × Below (now map) n ⌝ }
+    ensures { λ r. ⌜ r ≡ cellAt (now (src .entry)) (now (costs .entry)) (now (colors .entry)) n lambda s (now (map .entry)) l a ⌝ }
+{
+    let p = place(s, l, a);
+    let x = src[p];
+    let m = near_cell(map, s, l, a);
+    let k = m.ctx;
+    let rates = cells::rates(costs, n, k, l + a == 0);
+    cells::choose_cell(x, colors, m, &rates, n, lambda)
+}
+
+// Line l cell by cell, into the map: its cost. It stops where the total has reached the limit.
+fn cell_by_cell(
+    src: &[f32],
+    map: &mut [u8],
+    costs: &[f32],
+    colors: &[f32; 8],
+    s: Scan,
+    l: usize,
+    n: usize,
+    lambda: f32,
+    row: f32,
+    limit: f32,
+) -> cells::Cost
+    requires { ⌜ Sound s (length (now src)) × (length (now src) ≤ length (now map)) × (l < s .lines) ⌝ }
+    requires { ⌜ (2 ≤ n) × (n ≤ 8) × (length (now costs) ≡ 301) × Below (now map) n ⌝ }
+    ensures { λ r. ⌜ Halted (now (src .entry)) (now (costs .entry)) (now (colors .entry)) n lambda s (now (map .entry)) l row limit r (now (map .exit)) ⌝ }
+{
+    let mut cost = cells::Cost {
+        dist: 0.0,
+        rate: row,
+    };
+    let mut a: usize = 0;
+    while a < s.len {
+        let v = one_cell(src, map, costs, colors, s, l, a, n, lambda);
+        let p = place(s, l, a);
+        map[p] = v.index;
+        let d = v.cost;
+        cost = cells::plus(cost, d);
+        if cells::total(cost, lambda) >= limit {
+            return cost;
+        }
+        a += 1;
+    }
+    cost
+}
+
+// The first candidate of line l: the copy, or on the first line the constant of index 0.
+fn first_of(
+    src: &[f32],
+    map: &[u8],
+    colors: &[f32; 8],
+    s: Scan,
+    l: usize,
+    row: f32,
+    zero: Choice,
+) -> Choice
+    requires { ⌜ Sound s (length (now src)) × (length (now src) ≤ length (now map)) × (l < s .lines) × Below (now map) 8 ⌝ }
+    ensures { λ r. ⌜ r ≡ cond (eqb l 0) zero (copiedBy (now (src .entry)) (now (colors .entry)) s (now (map .entry)) l row) ⌝ }
+{
+    if l == 0 {
+        return zero;
+    }
+    let cost = cells::Cost {
+        dist: copy_dist(src, map, colors, s, l),
+        rate: row,
+    };
+    Choice {
+        cost,
+        flag: 2,
+        index: 0,
+    }
+}
+
+// The cost of a flag under its context.
+fn row_cost(costs: &[f32], ctx: usize, flag: usize) -> f32
+    requires { ⌜ (ctx ≤ 3) × (flag ≤ 2) × (length (now costs) ≡ 301) ⌝ }
+    ensures { λ r. ⌜ r ≡ rowCost (now (costs .entry)) ctx flag ⌝ }
+{
+    costs[9 + ctx * 3 + flag]
+}
+
+// The cheapest of copy and constants.
+fn line_best(
+    src: &[f32],
+    map: &[u8],
+    costs: &[f32],
+    colors: &[f32; 8],
+    s: Scan,
+    l: usize,
+    n: usize,
+    lambda: f32,
+    ctx: usize,
+) -> Choice
+    requires { ⌜ Sound s (length (now src)) × (length (now src) ≤ length (now map)) × (l < s .lines) × (ctx ≤ 3) ⌝ }
+    requires { ⌜ (2 ≤ n) × (n ≤ 8) × (length (now costs) ≡ 301) × Below (now map) n ⌝ }
+    ensures { λ r. ⌜ r ≡ bestOf (now (src .entry)) (now (costs .entry)) (now (colors .entry)) n lambda s (now (map .entry)) l ctx ⌝ }
+{
+    let m = near_cell(map, s, l, 0);
+    let k = m.ctx;
+    let v = m.a as usize;
+    let rates = cells::rates(costs, n, k, l == 0);
+    let dists = const_dists(src, colors, s, l);
+    let row = row_cost(costs, ctx, 1);
+    let zero = constant(&dists, &rates, v, row, 0);
+    let copy = row_cost(costs, ctx, 2);
+    let from = first_of(src, map, colors, s, l, copy, zero);
+    best_const(&dists, &rates, v, row, n, lambda, from)
+}
+
+// The constant or the copy into the map.
+fn put_best(map: &mut [u8], s: Scan, l: usize, best: Choice)
+    requires { ⌜ Sound s (length (now map)) × (l < s .lines) × (((best .flag ≡ 1) → ⊥) → 0 < l) ⌝ }
+    ensures { λ _. ⌜ now (map .exit) ≡ cond (eqb (best .flag) 1) (fill s l (λ a. best .index) (now (map .entry)) (s .len))
+        (fill s l (λ a. cellIn (now (map .entry)) s (l - 1) a) (now (map .entry)) (s .len)) ⌝ }
+{
+    if best.flag == 1 {
+        let i = best.index;
+        fill_line(map, s, l, i);
+    } else {
+        copy_line(map, s, l);
+    }
+}
+
+// The cheapest candidate of line l, under the flag context ctx, into the map.
+fn choose_line(
+    src: &[f32],
+    map: &mut [u8],
+    costs: &[f32],
+    colors: &[f32; 8],
+    s: Scan,
+    l: usize,
+    n: usize,
+    lambda: f32,
+    ctx: usize,
+) -> Choice
+    requires { ⌜ Sound s (length (now src)) × (length (now src) ≤ length (now map)) × (length (now map) ≤ 4096) × (l < s .lines) × (ctx ≤ 3) ⌝ }
+    requires { ⌜ (2 ≤ n) × (n ≤ 8) × (length (now costs) ≡ 301) × Below (now map) n × Priced (now costs) lambda ⌝ }
+    ensures { λ r. ⌜ r ≡ lineOf (now (src .entry)) (now (costs .entry)) (now (colors .entry)) n lambda s (now (map .entry)) l ctx ⌝ }
+    ensures { λ r. ⌜ now (map .exit) ≡ putLine (now (src .entry)) (now (costs .entry)) (now (colors .entry)) n lambda s (now (map .entry)) l ctx r ⌝ }
+{
+    let best = line_best(src, map, costs, colors, s, l, n, lambda, ctx);
+    let row = row_cost(costs, ctx, 0);
+    let c = best.cost;
+    let limit = cells::total(c, lambda);
+    let own = cell_by_cell(src, map, costs, colors, s, l, n, lambda, row, limit);
+    if cells::total(own, lambda) < limit {
+        return Choice {
+            cost: own,
+            flag: 0,
+            index: 0,
+        };
+    }
+    put_best(map, s, l, best);
+    best
+}
+
+fn wide(x: u8) -> usize
+    ensures { λ r. ⌜ r ≡ x ⌝ }
+{
+    x as usize
+}
+
+// The map and its flags, line by line, until the bound is reached.
+pub fn build_map(
+    src: &[f32],
+    costs: &[f32],
+    colors: &[f32; 8],
+    s: Scan,
+    n: usize,
+    lambda: f32,
+    head: f32,
+    bound: f32,
+    map: &mut [u8],
+    flags: &mut [u8],
+) -> MapResult
+    requires { ⌜ Sound s (length (now src)) × (length (now src) ≤ length (now map)) × (length (now map) ≤ 4096) × (s .lines ≤ length (now flags)) ⌝ }
+    requires { ⌜ (2 ≤ n) × (n ≤ 8) × (length (now costs) ≡ 301) × Below (now map) n × Priced (now costs) lambda ⌝ }
+    ensures { λ r. ⌜ Built (mapOf (now (src .entry)) (now (costs .entry)) (now (colors .entry)) n lambda s head bound (now (map .entry)) (now (flags .entry)))
+        r (now (map .exit)) (now (flags .exit)) ⌝ }
+{
+    let mut cost = cells::Cost {
+        dist: 0.0,
+        rate: 0.0,
+    };
+    let mut ctx: usize = 3;
+    let mut l: usize = 0;
+    while l < s.lines {
+        let c = choose_line(src, map, costs, colors, s, l, n, lambda, ctx);
+        flags[l] = c.flag;
+        let d = c.cost;
+        cost = cells::plus(cost, d);
+        if cost.dist + lambda * (head + cost.rate) >= bound {
+            return MapResult::Beaten;
+        }
+        ctx = wide(c.flag);
+        l += 1;
+    }
+    MapResult::Found(cost.dist, cost.rate)
+}
