@@ -85,7 +85,7 @@ others-distinct xs (suc n) =
     elem-added (elem n xs) v n ∙ rw (ne-eqb v n (λ e. omega arith)) refl)
 
 -- one more that comes first means one fewer of the others
-fewer : (x : ℕ) (xs : List ℕ) (n : ℕ) → elem x xs ≡ false
+pub fewer : (x : ℕ) (xs : List ℕ) (n : ℕ) → elem x xs ≡ false
     → length (others (x ∷ xs) n) + bit (ltb x n) ≡ length (others xs n)
 unfolding others elem
 fewer x xs zero e = rw (le-ltb x 0 (omega arith)) refl
@@ -106,7 +106,7 @@ fewer x xs (suc n) e =
     ] in
     go (eqb n x) refl
 
-all-length : (n : ℕ) → length (others [] n) ≡ n
+pub all-length : (n : ℕ) → length (others [] n) ≡ n
 unfolding others elem
 all-length zero = refl
 all-length (suc n) = omega (arith, all-length n, length-append (others [] n) (n ∷ []))

@@ -2,3 +2,4 @@ pub mod Map
 pub mod Order
 pub mod Context
 pub mod Parts
+pub mod Ranks

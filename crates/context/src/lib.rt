@@ -4,11 +4,13 @@ ghost use mathlib.Core.Path.{_≡_};
 ghost use mathlib.Core.Bool.{not};
 ghost use mathlib.Core.List.{_∷_, []};
 ghost use Prim.Native.Nat.{_+_, _*_, _≤_, _<_, min};
-ghost use lib.ListN.{take, replicate};
-ghost use Rattle.lists.specs.Counted.{elem};
+ghost use lib.ListN.{length, take, replicate};
+ghost use lib.Dec.{ltb};
+ghost use Rattle.lists.specs.Counted.{elem, bit};
 ghost use Rattle.context.specs.Map.{linesOf, lengthOf};
-ghost use Rattle.context.specs.Order.{byThree, place};
+ghost use Rattle.context.specs.Order.{byThree, around};
 ghost use Rattle.context.specs.Context.{answered, refused, contextOf};
+ghost use Rattle.context.specs.Ranks.{rankFrom};
 ghost use Rattle.context.specs.Parts.{held, neighbourAt, oneAt, threeAt};
 
 // An index: the place of a colour in the palette, as the map holds it.
@@ -51,22 +53,6 @@ pub fn length_of(transposed: bool, width: usize, height: usize) -> usize
     ensures { λ r. ⌜ r ≡ lengthOf transposed width height ⌝ }
 {
     if transposed { height } else { width }
-}
-
-// The place of an index in the first n of an order, or n.
-pub fn rank_of(order: [u8; 8], n: usize, index: Index) -> Rank
-    requires { ⌜ n ≤ 8 ⌝ }
-    ensures { λ r. ⌜ (r .0 ≡ place (index .0) (take n order)) × (r .0 ≤ n) ⌝ }
-{
-    let v = index.0;
-    let mut i: usize = 0;
-    while i < n {
-        if v == order[i] {
-            return Rank(i as u8);
-        }
-        i += 1;
-    }
-    Rank(i as u8)
 }
 
 // Number 18.
@@ -235,4 +221,72 @@ pub fn color_ctx(map: &[u8], stride: usize, y: usize, x: usize, n: usize) -> Con
     }
     // Left is the last of the three, so the others stand in the map too.
     from_three(map, left, left + 1 - stride, left - stride, m)
+}
+
+// A cell's context, and the rank of its index there.
+pub struct Ranked {
+    pub ctx: usize,
+    pub rank: Rank,
+}
+
+fn below(a: u8, b: u8) -> usize
+    ensures { λ r. ⌜ (r ≡ bit (ltb a b)) × (r ≤ 1) ⌝ }
+{
+    if a < b { 1 } else { 0 }
+}
+
+fn wide(index: u8) -> usize
+    ensures { λ r. ⌜ r ≡ index ⌝ }
+{
+    index as usize
+}
+
+// The rank of an index by the indices that come first: the order itself is not made.
+fn rank_near(firsts: [u8; 8], count: usize, index: Index) -> Rank
+    requires { ⌜ (count ≤ 3) × (index .0 < 8) ⌝ }
+    ensures { λ r. ⌜ r .0 ≡ rankFrom (index .0) 0 0 (take count firsts) ⌝ }
+{
+    let i = index.0;
+    let mut low: usize = 0;
+    let mut k: usize = 0;
+    while k < count {
+        let first = firsts[k];
+        if i == first {
+            return Rank(k as u8);
+        }
+        low += below(first, i);
+        k += 1;
+    }
+    Rank((count + wide(i) - low) as u8)
+}
+
+fn rank_under(near: Near, index: Index) -> Ranked
+    requires { ⌜ (near .count ≤ 3) × (index .0 < 8) ⌝ }
+    ensures { λ r. ⌜ (r .ctx ≡ near .ctx) × (r .rank .0 ≡ rankFrom (index .0) 0 0 (take (near .count) (near .firsts))) ⌝ }
+{
+    let firsts = near.firsts;
+    let rank = rank_near(firsts, near.count, index);
+    Ranked {
+        ctx: near.ctx,
+        rank,
+    }
+}
+
+// The context of a cell that stands in the map, and the rank of an index there, whatever the number of indices above it.
+pub fn rank_at(map: &[u8], w: usize, y: usize, x: usize, index: Index) -> Ranked
+    requires { ⌜ (0 < y + x) × (x < w) × (y * w + x < length (now map)) × (index .0 < 8) ⌝ }
+    ensures { λ r. ⌜ r .ctx ≡ around byThree (now (map .entry)) w y x .ctx ⌝ }
+    ensures { λ r. ⌜ r .rank .0 ≡ rankFrom (index .0) 0 0 (around byThree (now (map .entry)) w y x .firsts) ⌝ }
+{
+    let p = y * w + x;
+    if y == 0 {
+        let near = near_of(0, 1, map[p - 1], 0, 0);
+        return rank_under(near, index);
+    }
+    if x == 0 {
+        let near = near_of(0, 1, map[p - w], 0, 0);
+        return rank_under(near, index);
+    }
+    let near = nearest(Index(map[p - 1]), Index(map[p - w]), Index(map[p - w - 1]));
+    rank_under(near, index)
 }

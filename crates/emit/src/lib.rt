@@ -117,11 +117,10 @@ fn ranked_word(map: &[u8], w: usize, n: usize, y: usize, x: usize) -> u32
     requires { ⌜ ((i : ℕ) → i < length (now map) → getD (now map) i 0 < n) ⌝ }
     ensures { λ r. ⌜ r ≡ rankedWord 5 (around byThree (now (map .entry)) w y x) n (cell (now (map .entry)) w y x) ⌝ }
 {
-    let around = context::color_ctx(map, w, y, x, n);
-    let order = around.order;
     let index = index_at(map, y * w + x);
-    let rank = context::rank_of(order, n, index);
-    literals::call(5, ((n - 2) * 5 + around.ctx) as u32, rank.0 as u32)
+    let found = context::rank_at(map, w, y, x, index);
+    let rank = found.rank;
+    literals::call(5, ((n - 2) * 5 + found.ctx) as u32, rank.0 as u32)
 }
 
 // The word of the cell at row y, column x.
