@@ -30,7 +30,7 @@ unfolding allIn
 all-in [] n b = refl
 all-in (x ∷ xs) n b = rw (lt-ltb x n (b 0), all-in xs n (λ j. b (suc j))) refl
 
-lines-are : (w h : ℕ) (t : Bool) → (scanOf w h t .lines ≡ cond t w h) × (scanOf w h t .len ≡ cond t h w)
+pub lines-are : (w h : ℕ) (t : Bool) → (scanOf w h t .lines ≡ cond t w h) × (scanOf w h t .len ≡ cond t h w)
 lines-are w h true = (refl, refl)
 lines-are w h false = (refl, refl)
 

@@ -1,2 +1,4 @@
 pub mod Valid
 pub mod Accepted
+pub mod Kept
+pub mod Listed

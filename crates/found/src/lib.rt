@@ -1,1 +1,1 @@
-// A found map is valid, and the listing accepts it: laws in proofs/. There is no code.
+// A found map is valid, and the listing lists it whole: laws in proofs/. There is no code.

@@ -30,9 +30,11 @@ module _ (w h bd : ℕ) (cache : List ℕ) (p : Palette) (before : List ℕ) whe
         words = simp (ne-eqb k 0 f);
       }
 
-  pub short : refusal w h bd (length cache) p ≡ 0 → length before < length list → Lists w h bd cache p before before (refusedBy 16)
+  pub short : refusal w h bd (length cache) p ≡ 0 → length before < length list → (after : List ℕ) → after ≡ before
+      → Lists w h bd cache p before after (refusedBy 16)
   unfolding listNumber
-  short e f = record { number = rw e (simp (lt-leb (length list) (length before) f)); count = refl; width = refl; words = refl }
+  short e f after a =
+      record { number = rw e (simp (lt-leb (length list) (length before) f)); count = refl; width = refl; words = a }
 
   pub whole : refusal w h bd (length cache) p ≡ 0 → length list ≤ length before → (after : List ℕ) (count raw : ℕ)
       → after ≡ front list before → count ≡ length list → raw ≡ rawWidth list

@@ -136,10 +136,12 @@ fn list_by(
         cache,
         aside,
     );
-    if words.len() < count {
+    let room = words.len();
+    let kept = if room < count { 0 } else { count };
+    copy_words(aside, kept, words);
+    if room < count {
         return refused(16);
     }
-    copy_words(aside, count, words);
     let raw = raw_width(aside, count);
     Listed {
         number: 0,

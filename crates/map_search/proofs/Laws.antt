@@ -16,12 +16,14 @@ use Rattle.near.specs.Near.{nearAt, aroundOf, Below, Usable}
 use Rattle.near.specs.declared.Near.{Near}
 use Rattle.near.proofs.Laws.{edge-rank, usable, same-context, same-order}
 use Rattle.cells.proofs.Laws.{chosen-in, order-under, order-fits, cheapest-append, cheapest-twice, cheapest-holds, All}
-use Rattle.cells.specs.Cell.{eight, cheapest, firstCheapest, totalOf, ratesOf}
+use Rattle.cells.specs.Cell.{eight, plus, cheapest, firstCheapest, totalOf, ratesOf}
 use Rattle.map_search.specs.Lines.{placeAt, cellIn, fill, distLine, rowCost, ratesAt, cellAt, cellsOf, copiedBy, copied, constant, constants, own, totalBy, candidates, lineOf, putLine, Walk, next, reached, restOf}
 use Rattle.map_search.specs.Parts.{first, bestOf, constantBy, constantsBy}
 use Rattle.context.specs.Map.{rowAt, colAt}
 use Rattle.map_search.specs.Sound.{Sound}
 use Rattle.cells.specs.declared.Cost.{Cost}
+use Rattle.cells.specs.declared.Cell.{Cell}
+use native.Mathlib.Numerals.{add-one}
 use Rattle.map_search.specs.declared.Scan.{Scan}
 use Rattle.map_search.specs.declared.Choice.{Choice}
 use Rattle.map_search.specs.declared.MapResult.the-variants.{Found, Beaten}
@@ -280,7 +282,8 @@ module _ (samples costs colours : List Float) (n : ℕ) (lambda : Float) (s : Sc
       → O ≡ cellsOf samples costs colours n lambda s m l (rowCost costs ctx 0) (s .len) .cost → (t : Bool) → lt (totalOf O lambda) (totalOf (B .cost) lambda) ≡ t
       → cond t (record { cost = O; flag = 0; index = 0 }) B ≡ lineOf samples costs colours n lambda s m l ctx
   settled p m l ctx O B b o t e =
-      sym (line-last m l ctx p ∙ rw (← b, ← o, e) refl)
+      let mine : O ≡ own samples costs colours n lambda s m l ctx .cost = o in
+      sym (line-last m l ctx p ∙ rw (← b, ← mine, e) refl)
 
   pub put-own : (m : List ℕ) (l ctx : ℕ) (O : Cost) → cellsOf samples costs colours n lambda s m l (rowCost costs ctx 0) (s .len) .map
       ≡ putLine samples costs colours n lambda s m l ctx (record { cost = O; flag = 0; index = 0 })
@@ -324,6 +327,21 @@ module _ (samples costs colours : List Float) (n : ℕ) (lambda : Float) (s : Sc
         ≡ record { map = t .map; flags = t .flags; result = Found (t .cost .dist) (t .cost .rate) }
     unfolding restOf
     rest-none L l t h = let e : L - l ≡ 0 = omega arith in rw e refl
+
+  -- one cell more, by what a function found: the cell, its place and the costs so far
+  pub cells-by : (m : List ℕ) (l : ℕ) (row : Float) (k : ℕ) (q : List ℕ) (b : Cost) (v : Cell) (p : ℕ) (d : Cost)
+      → q ≡ cellsOf samples costs colours n lambda s m l row k .map → b ≡ cellsOf samples costs colours n lambda s m l row k .cost
+      → v ≡ cellAt samples costs colours n lambda s q l k → p ≡ placeAt s l k → d ≡ plus b (v .cost)
+      → (set q p (v .index) ≡ cellsOf samples costs colours n lambda s m l row (k + 1) .map)
+      × (d ≡ cellsOf samples costs colours n lambda s m l row (k + 1) .cost)
+  unfolding cellsOf
+  cells-by m l row k q b v p d e f g h i = (rw (add-one, h, g, e) refl, rw (add-one, i, g, f, e) refl)
+
+  -- one line more, by what a function found: the choice, the map with it and the costs so far
+  pub next-by : (t : Walk) (l : ℕ) (c : Choice) (m : List ℕ) (k : Cost) → c ≡ lineOf samples costs colours n lambda s (t .map) l (t .ctx)
+      → m ≡ putLine samples costs colours n lambda s (t .map) l (t .ctx) c → k ≡ plus (t .cost) (c .cost)
+      → next samples costs colours n lambda s t l ≡ record { map = m; flags = set (t .flags) l (c .flag); ctx = c .flag; cost = k }
+  next-by t l c m k e f g = rw (g, f, e) refl
 
   -- a copied line is not the first
   pub line-flag : (m : List ℕ) (l ctx : ℕ) → 0 < n → lineOf samples costs colours n lambda s m l ctx .flag ≡ 2 → 0 < l

@@ -113,7 +113,7 @@ module _ (samples costs colours : List Float) (n : ℕ) (lambda : Float) (s : Sc
 module _ (samples costs colours : List Float) (n : ℕ) (lambda : Float) (s : Scan) (P : Priced costs lambda) (two : 2 ≤ n) (m : List ℕ) (l ctx : ℕ) (O : Cost) (B : Choice) (M : List ℕ) (limit : Float)
     (b : B ≡ bestOf samples costs colours n lambda s m l ctx) (x : limit ≡ totalOf (B .cost) lambda) (H : Halted samples costs colours n lambda s m l (rowCost costs ctx 0) limit O M) where
   reached : le limit (totalOf O lambda) ≡ true → (j : ℕ) → H .cells ≤ j → lt (totalOf (cellsOf samples costs colours n lambda s m l (rowCost costs ctx 0) j .cost) lambda) limit ≡ false
-  reached r j h = never-wins samples costs colours n lambda s P m l (rowCost costs ctx 0) (P .plus _) (P .held _) limit (H .cells) j h (rw (H .cost) at r)
+  reached r j h = never-wins samples costs colours n lambda s P m l (rowCost costs ctx 0) (P .plus _) (H .held) limit (H .cells) j h (rw (H .cost) at r)
 
   whole : H .cells ≡ s .len → O ≡ cellsOf samples costs colours n lambda s m l (rowCost costs ctx 0) (s .len) .cost
   whole e = H .cost ∙ ap (λ (k : ℕ). cellsOf samples costs colours n lambda s m l (rowCost costs ctx 0) k .cost) e

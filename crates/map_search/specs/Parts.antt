@@ -4,9 +4,9 @@ use mathlib.Core.Bool.{true, cond}
 use mathlib.Core.Path.{_≡_}
 use mathlib.Core.List.{List, [], _∷_}
 use mathlib.Core.Logic.{_⊎_}
-use lib.Dec.{eqb}
+use lib.Dec.{eqb, T}
 use lib.ListN.{getD}
-use lib.Ieee.{Float, nan, binary32, add, le}
+use lib.Ieee.{Float, nan, binary32, add, le, fits}
 use Rattle.near.specs.Near.{rankBy}
 use Rattle.cells.specs.Cell.{totalOf, cheapest}
 use Rattle.cells.specs.declared.Cost.{Cost}
@@ -35,8 +35,9 @@ unfoldable pub constantsBy : List Float → List Float → ℕ → Float → ℕ
 constantsBy dists rates v row c zero = []
 constantsBy dists rates v row c (suc k) = constantBy dists rates v row c ∷ constantsBy dists rates v row (c + 1) k
 
--- cell by cell up to the end of the line, or until the total has reached the limit
+-- cell by cell up to the end of the line, or until the total has reached the limit; row is an f32
 pub record Halted (samples costs colours : List Float) (n : ℕ) (lambda : Float) (s : Scan) (m : List ℕ) (l : ℕ) (row limit : Float) (r : Cost) (map : List ℕ) : Type 0 where
+  pub held : T (fits binary32 row)
   pub cells : ℕ
   pub few : cells ≤ s .len
   pub cost : r ≡ cellsOf samples costs colours n lambda s m l row cells .cost

@@ -2,8 +2,7 @@
 use Prim.Native.Nat.{ℕ, _+_, _*_, _^_, _≤_, _<_}
 use mathlib.Core.List.{List}
 use lib.ListN.{getD}
-use lib.Ieee.{Float, nan, binary32, fits}
-use lib.Dec.{T}
+use lib.Ieee.{Float, nan}
 use Rattle.ieee.specs.Bounds.{NotNeg, Within}
 use mathlib.Core.Path.{_≡_}
 use Rattle.map_search.specs.declared.Scan.{Scan}
@@ -26,8 +25,7 @@ pub record Built (w : Ended) (r : MapResult) (map flags : List ℕ) : Type 0 whe
   pub cells : map ≡ w .map
   pub signs : flags ≡ w .flags
 
--- what the costs and lambda are: not negative, lambda finite, each held by an f32
+-- what the costs and lambda are: not negative, lambda finite
 pub record Priced (costs : List Float) (lambda : Float) : Type 0 where
   pub plus : (i : ℕ) → NotNeg (getD costs i nan)
-  pub held : (i : ℕ) → T (fits binary32 (getD costs i nan))
   pub mild : Within lambda (2 ^ 20)

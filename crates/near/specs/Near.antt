@@ -13,11 +13,14 @@ use Rattle.near.specs.declared.Near.{Near}
 abbrev pub one : ℕ → Near
 one v = record { ctx = 0; count = 1; a = v; b = 0; c = 0 }
 
+abbrev pub two : ℕ → ℕ → ℕ → Near
+two ctx a b = record { ctx = ctx; count = 2; a = a; b = b; c = 0 }
+
 abbrev pub byTests : Bool → Bool → Bool → ℕ → ℕ → ℕ → Near
 byTests true true e left top diag = record { ctx = 4; count = 1; a = left; b = 0; c = 0 }
-byTests true false e left top diag = record { ctx = 3; count = 2; a = left; b = diag; c = 0 }
-byTests false true e left top diag = record { ctx = 2; count = 2; a = left; b = top; c = 0 }
-byTests false false true left top diag = record { ctx = 2; count = 2; a = top; b = left; c = 0 }
+byTests true false e left top diag = two 3 left diag
+byTests false true e left top diag = two 2 left top
+byTests false false true left top diag = two 2 top left
 byTests false false false left top diag = record { ctx = 1; count = 3; a = left; b = top; c = diag }
 
 unfoldable pub nearOf : ℕ → ℕ → ℕ → Near

@@ -4,7 +4,7 @@ ghost use mathlib.Core.Path.{_≡_};
 ghost use Prim.Native.Nat.{_+_, _*_, _≤_, _<_};
 ghost use lib.ListN.{length};
 ghost use Rattle.lists.specs.Counted.{elem};
-ghost use Rattle.near.specs.Near.{one, nearOf, nearAt, firstsOf};
+ghost use Rattle.near.specs.Near.{one, two, nearOf, nearAt, firstsOf};
 
 pub struct Near {
     pub ctx: usize,
@@ -26,6 +26,18 @@ fn near_one(v: u8) -> Near
     }
 }
 
+fn near_two(ctx: usize, a: u8, b: u8) -> Near
+    ensures { λ r. ⌜ r ≡ two ctx a b ⌝ }
+{
+    Near {
+        ctx,
+        count: 2,
+        a,
+        b,
+        c: 0,
+    }
+}
+
 fn near_of(left: u8, top: u8, diag: u8) -> Near
     ensures { λ r. ⌜ r ≡ nearOf left top diag ⌝ }
 {
@@ -39,30 +51,12 @@ fn near_of(left: u8, top: u8, diag: u8) -> Near
                 c: 0,
             }
         } else {
-            Near {
-                ctx: 3,
-                count: 2,
-                a: left,
-                b: diag,
-                c: 0,
-            }
+            near_two(3, left, diag)
         }
     } else if left == diag {
-        Near {
-            ctx: 2,
-            count: 2,
-            a: left,
-            b: top,
-            c: 0,
-        }
+        near_two(2, left, top)
     } else if diag == top {
-        Near {
-            ctx: 2,
-            count: 2,
-            a: top,
-            b: left,
-            c: 0,
-        }
+        near_two(2, top, left)
     } else {
         Near {
             ctx: 1,

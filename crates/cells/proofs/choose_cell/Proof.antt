@@ -10,20 +10,16 @@ use borrow.Author.Needs.{needs}
 use Rattle.cells.proofs.choose_cell.Statement.{statement}
 use Rattle.cells.proofs.choose_cell.Tie as tie
 
--- BEGIN whole
 whole : (c : tie.After-pick-rest) → c .pick-rest .result ≡ chosen (c .before .before .before .before .squares .result) (now (c .before .before .before .before .before .args .rates)) (c .before .before .before .before .before .args .lambda) (orderOf (aroundOf (c .before .before .before .before .before .args .m)) (c .before .before .before .before .before .args .n))
 whole c =
     let s = c .before .before .before .before .before in
     c .pick-rest .ensures ∙ rw (c .before .before .pick-near .ensures) (sym (chosen-whole (c .before .before .before .before .squares .result) (now (s .args .rates)) (s .args .lambda) (s .args .m) (s .args .n) (s .pre .0)))
 
--- END
--- BEGIN inside
 inside : (c : tie.After-pick-rest) → (c .pick-rest .result .index < c .before .before .before .before .before .args .n) × (c .pick-rest .result .rank < 8)
 inside c =
     let s = c .before .before .before .before .before in
     rw (whole c) (chosen-in (c .before .before .before .before .squares .result) (now (s .args .rates)) (s .args .lambda) (s .args .n) (orderOf (aroundOf (s .args .m)) (s .args .n)) (s .pre .1) (order-under (s .args .m) (s .args .n) (s .pre .0) (s .pre .2)) (order-fits (s .args .m) (s .args .n) (s .pre .0) (s .pre .2)))
 
--- END
 squares-requires : tie.Need-squares-requires
 squares-requires c κs = search needs
 

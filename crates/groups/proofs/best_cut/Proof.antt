@@ -1,9 +1,10 @@
 -- The invariant: i is m past k, and b is the best of the first m cuts.
+use mathlib.Core.Bool.{true, false}
 use mathlib.Core.Path.{_≡_, refl}
 use mathlib.Core.Logic.{⊎-elim}
 use Prim.Native.Nat.{ℕ, suc, _+_, _-_, _*_, _≤_}
 use native.Mathlib.Omega.{arith}
-use lib.Ieee.{ofBits, div}
+use lib.Ieee.{ofBits, div, lt}
 use Rattle.groups.specs.Tables.{rowAt}
 use Rattle.groups.specs.Groups.{firstOf}
 use Rattle.groups.proofs.best_cut.Statement.{statement}
@@ -49,8 +50,10 @@ loop-again c =
       omega arith,
       omega arith,
       ⊎-elim
-          (λ w. rw (w .1, ← l .inv .3, ← l .inv .1, ← c .before .before .cost .ensures, w .0 .taken) refl)
-          (λ w. rw (w .1, ← l .inv .3, ← l .inv .1, ← c .before .before .cost .ensures, w .0 .left) refl)
+          (λ w. let less : lt _ (l .b .cost) ≡ true = w .0 .taken in
+          rw (w .1, ← l .inv .3, ← l .inv .1, ← c .before .before .cost .ensures, less) refl)
+          (λ w. let not-less : lt _ (l .b .cost) ≡ false = w .0 .left in
+          rw (w .1, ← l .inv .3, ← l .inv .1, ← c .before .before .cost .ensures, not-less) refl)
           (c .if1 .came),
     )
 

@@ -1,6 +1,7 @@
-use Prim.Native.Nat.{ℕ, _≤_, _<_}
+use Prim.Native.Nat.{ℕ, _≤_}
 use mathlib.Core.Path.{_≡_, refl, sym, ap, _∙_}
 use mathlib.Core.List.{List}
+use mathlib.Core.Logic.{⊎-elim}
 use native.Mathlib.Omega.{arith}
 use lib.ListN.{length, take}
 use borrow.Author.Needs.{needs}
@@ -37,37 +38,57 @@ module _ (c : tie.Else1) where
   zero : fault (start c) ≡ 0
   zero = sym (c .before .fault .ensures) ∙ c .if1 .left
 
-  accepted : Accepted (start c .args .width) (start c .args .height) (start c .args .bd) (start c .args .cache .now) (palette (start c))
+  accepted : let s = start c in Accepted (s .args .width) (s .args .height) (s .args .bd) (s .args .cache .now) (palette s)
   accepted = accepted-of-zero _ _ _ _ _ zero
 
   few : start c .args .n ≤ 8
   few =
       let s = start c in
-      omega (
-        arith,
-        facts _ _ _ _ _ accepted .few,
-        length-given (s .args .colors) (good-length (eInt w16) 8 (s .args .colors) _ (s .good .1 .1 .1 .0)) (s .args .bd) (s .args .n) (accepted .colors),
-      )
+      let eight = good-length (eInt w16) 8 (s .args .colors) _ (s .good .1 .1 .1 .0) in
+      let given = length-given (s .args .colors) eight (s .args .bd) (s .args .n) (accepted .colors) in
+      omega (arith, facts _ _ _ _ _ accepted .few, given)
 
   bounded : length (list (start c)) ≤ 4234
   bounded = list-few _ _ _ _ _ accepted
 
 -- the list stands aside
 module _ (c : tie.After-slice-known3) where
+  abbrev accepting : tie.Else1
+  accepting = c .before .before .before .before
+
+  abbrev words : List ℕ
+  words = start accepting .args .words .now
+
+  abbrev count : ℕ
+  count = c .before .before .emit-list .result
+
   abbrev made : List ℕ
   made = c .before .before .emit-list .last .1 .1 .1 .1 .1 .1 .1 .1 .1 .0
 
-  enough : c .before .before .emit-list .result ≤ length made
-  enough =
-      let a = c .before .before .before .before in
-      omega (arith, bounded a, start a .pre, c .before .before .emit-list .ensures .0, c .before .before .emit-list .kept .1 .1 .1 .1 .1 .1 .1 .1 .1 .0)
+  counted : count ≡ length (list (start accepting))
+  counted = c .before .before .emit-list .ensures .0
 
-  taken : take (c .before .before .emit-list .result) made ≡ list (start (c .before .before .before .before))
+  enough : count ≤ length made
+  enough =
+      let kept = c .before .before .emit-list .kept .1 .1 .1 .1 .1 .1 .1 .1 .1 .0 in
+      omega (arith, bounded accepting, start accepting .pre, counted, kept)
+
+  taken : take count made ≡ list (start accepting)
   taken =
-      let a = c .before .before .before .before in
-      let e = c .before .before .emit-list in
-      ap (λ (k : ℕ). take k made) (e .ensures .0) ∙ ap (take (length (list (start a)))) (e .ensures .1)
-      ∙ written-take (start a .args .aside .now) (list (start a)) (omega (arith, bounded a, start a .pre))
+      let s = start accepting in
+      ap (λ (k : ℕ). take k made) counted ∙ ap (take (length (list s))) (c .before .before .emit-list .ensures .1)
+      ∙ written-take (s .args .aside .now) (list s) (omega (arith, bounded accepting, s .pre))
+
+-- `kept` of its words stand in `words`
+abbrev standing : tie.After-copy-words → tie.After-slice-known3
+standing c = c .before .before .before .before
+
+module _ (c : tie.After-copy-words) where
+  abbrev kept : ℕ
+  kept = c .before .before .before .if2 .kept
+
+  abbrev after : List ℕ
+  after = c .copy-words .last .1 .1 .0
 
 fault-requires : tie.Need-fault-requires
 fault-requires c κs = search needs
@@ -85,49 +106,65 @@ emit-list-requires c κs =
     let h : 4234 ≤ length (s .args .aside .now) = s .pre in
     (accepted (c .before), (few (c .before), h))
 
+copy-words-requires : tie.Need-copy-words-requires
+copy-words-requires c κs =
+    let j = c .before .before in
+    let e = j .before in
+    let g : j .if2 .kept ≤ length (made e) =
+    ⊎-elim (λ w. omega (arith, w .0 .taken, w .1, enough e)) (λ w. omega (arith, w .1, enough e)) (j .if2 .came) in
+    let h : j .if2 .kept ≤ length (words e) =
+    ⊎-elim (λ w. omega (arith, w .0 .taken, w .1)) (λ w. omega (arith, w .0 .left, w .1)) (j .if2 .came) in
+    (g, h)
+
 refused-requires-2 : tie.Need-refused-requires-2
 refused-requires-2 c κs = search needs
 
 same-length : tie.Need-same-length
 same-length c = search needs
 
-returns-2 : tie.Need-returns-2
-returns-2 c =
-    let m = c .before .before in
-    let a = m .before .before .before .before in
-    rw (c .refused2 .ensures) (short _ _ _ _ _ _ (zero a) (omega (arith, c .before .if2 .taken, m .before .before .emit-list .ensures .0)))
+same-length-2 : tie.Need-same-length-2
+same-length-2 c = search needs
 
-copy-words-requires : tie.Need-copy-words-requires
-copy-words-requires c κs =
-    let e = c .before .before .before in
-    let s = start (e .before .before .before .before) in
-    let g : e .before .before .emit-list .result ≤ length (made e) = enough e in
-    let h : e .before .before .emit-list .result ≤ length (s .args .words .now) = c .before .before .if2 .left in
-    (omega (arith, g), omega (arith, h))
+returns-2 : tie.Need-returns-2
+unfolding written
+returns-2 c =
+    let p = c .before .before .before .before in
+    let e = standing p in
+    let a = accepting e in
+    let small = c .before .if3 .taken in
+    let untouched : written (words e) 0 (take (kept p) (made e)) ≡ words e =
+    ⊎-elim
+    (λ w. ap (λ (k : ℕ). written (words e) 0 (take k (made e))) (w .1))
+    (λ w. absurd (omega (arith, w .0 .left, small)))
+    (p .before .before .before .if2 .came) in
+    rw (c .refused2 .ensures)
+    (short _ _ _ _ _ _ (zero a) (omega (arith, small, counted e)) (after p) (p .copy-words .ensures ∙ untouched))
 
 raw-width-requires : tie.Need-raw-width-requires
 raw-width-requires c κs =
-    let e = c .before .before .before .before .before .before .before in
-    let g : e .before .before .emit-list .result ≤ length (made e) = enough e in
-    (g, omega (arith, bounded (e .before .before .before .before), e .before .before .emit-list .ensures .0))
-
-same-length-2 : tie.Need-same-length-2
-same-length-2 c = search needs
+    let e = standing (c .before .before .before .before) in
+    let g : count e ≤ length (made e) = enough e in
+    (g, omega (arith, bounded (accepting e), counted e))
 
 same-length-3 : tie.Need-same-length-3
 same-length-3 c = search needs
 
+same-length-4 : tie.Need-same-length-4
+same-length-4 c = search needs
+
 returns-3 : tie.Need-returns-3
 returns-3 c =
-    let e = c .before .before .before .before .before .before .before .before in
-    let a = e .before .before .before .before in
-    let l = e .before .before .emit-list in
-    let p = c .before .before .before .before .copy-words in
-    let words = start a .args .words .now in
-    let fits : length (list (start a)) ≤ length words = omega (arith, c .before .before .before .before .before .before .before .if2 .left, l .ensures .0) in
-    whole _ _ _ _ _ _ (zero a) fits (p .last .1 .1 .0) (l .result) (c .raw-width .result)
-    (p .ensures ∙ ap (written words 0) (taken e) ∙ written-front words (list (start a)) fits)
-    (l .ensures .0)
+    let p = c .before .before .before .before .before in
+    let e = standing p in
+    let a = accepting e in
+    let large = c .before .before .if3 .left in
+    let fits : length (list (start a)) ≤ length (words e) = omega (arith, large, counted e) in
+    let all : kept p ≡ count e =
+    ⊎-elim (λ w. absurd (omega (arith, w .0 .taken, large))) (λ w. w .1) (p .before .before .before .if2 .came) in
+    whole _ _ _ _ _ _ (zero a) fits (after p) (count e) (c .raw-width .result)
+    (p .copy-words .ensures ∙ ap (λ (k : ℕ). written (words e) 0 (take k (made e))) all
+    ∙ ap (written (words e) 0) (taken e) ∙ written-front (words e) (list (start a)) fits)
+    (counted e)
     (c .raw-width .ensures ∙ ap rawWidth (taken e))
 
 pub list-by-spec : {M : Type 1} → statement M
@@ -138,11 +175,12 @@ list-by-spec =
     refused-requires
     returns
     emit-list-requires
+    copy-words-requires
     refused-requires-2
     same-length
-    returns-2
-    copy-words-requires
-    raw-width-requires
     same-length-2
+    returns-2
+    raw-width-requires
     same-length-3
+    same-length-4
     returns-3)

@@ -1,32 +1,72 @@
-use Rattle.map_search.proofs.Stop.{own-wins, own-loses}
-use Rattle.map_search.proofs.Laws.{sound-mono, length-cells, best-plain, Plain, put-plain}
-use Rattle.map_search.specs.Sound.{Sound}
-use Rattle.map_search.specs.Parts.{Halted}
-use Rattle.map_search.specs.Lines.{rowCost}
-use lib.ListN.{length}
-use Prim.Native.Nat.{_-_}
+use mathlib.Core.Bool.{true, false}
+use mathlib.Core.List.{List}
+use mathlib.Core.Path.{_≡_, sym, ap, subst, _∙_}
+use Prim.Native.Nat.{ℕ}
 use native.Mathlib.Omega.{arith}
+use lib.Ieee.{Float, lt}
+use lib.ListN.{length}
 use denote.Ref.{now}
-use mathlib.Core.Path.{_≡_, ap, _∙_}
 use borrow.Author.Needs.{needs}
+use Rattle.cells.specs.Cell.{totalOf}
+use Rattle.map_search.specs.declared.Choice.{Choice}
+use Rattle.map_search.specs.Lines.{rowCost}
+use Rattle.map_search.specs.Parts.{Halted}
+use Rattle.map_search.specs.Sound.{Sound}
+use Rattle.map_search.proofs.Laws.{sound-mono, length-cells, best-plain, Plain, put-plain}
+use Rattle.map_search.proofs.Stop.{own-wins, own-loses}
 use Rattle.map_search.proofs.choose_line.Statement.{statement}
 use Rattle.map_search.proofs.choose_line.Tie as tie
 
--- BEGIN halted
-halted : (c : tie.After-cell-by-cell) → Halted (now (c .before .before .before .before .before .before .before .before .before .before .args .src)) (now (c .before .before .before .before .before .before .before .before .before .before .args .costs)) (now (c .before .before .before .before .before .before .before .before .before .before .args .colors)) (c .before .before .before .before .before .before .before .before .before .before .args .n) (c .before .before .before .before .before .before .before .before .before .before .args .lambda) (c .before .before .before .before .before .before .before .before .before .before .args .s) (now (c .before .before .before .before .before .before .before .before .before .before .args .map)) (c .before .before .before .before .before .before .before .before .before .before .args .l) (rowCost (now (c .before .before .before .before .before .before .before .before .before .before .args .costs)) (c .before .before .before .before .before .before .before .before .before .before .args .ctx) 0) (c .before .before .total .result) (c .cell-by-cell .result) (c .cell-by-cell .last .1 .0)
-halted c = rw (c .before .before .before .before .row-cost .ensures) at (c .cell-by-cell .ensures)
+-- after the walk cell by cell
+abbrev start : tie.After-cell-by-cell → tie.Start
+start c = c .before .before .before .before .before .before .before .before .before .before
 
-plain : (c : tie.After-cell-by-cell) → let a = c .before .before .before .before .before .before .before .before .before .before .args in Plain (now (a .src)) (now (a .costs)) (now (a .colors)) (a .n) (a .lambda) (a .s) (a .l) (c .before .before .before .before .before .line-best .result)
-plain c = let a = c .before .before .before .before .before .before .before .before .before .before .args in rw (c .before .before .before .before .before .line-best .ensures) (best-plain (now (a .src)) (now (a .costs)) (now (a .colors)) (a .n) (a .lambda) (a .s) (now (a .map)) (a .l) (a .ctx) (omega (arith, c .before .before .before .before .before .before .before .before .before .before .pre .1 .0)))
+module _ (c : tie.After-cell-by-cell) where
+  abbrev src : List Float
+  src = now (start c .args .src)
 
-sound : (c : tie.After-cell-by-cell) → Sound (c .before .before .before .before .before .before .before .before .before .before .args .s) (length (c .cell-by-cell .last .1 .0))
-sound c =
-    let S = c .before .before .before .before .before .before .before .before .before .before in
-    let a = S .args in
-    let e : length (c .cell-by-cell .last .1 .0) ≡ length (now (a .map)) = ap length (halted c .put) ∙ length-cells (now (a .src)) (now (a .costs)) (now (a .colors)) (a .n) (a .lambda) (a .s) (now (a .map)) (a .l) (rowCost (now (a .costs)) (a .ctx) 0) (halted c .cells) in
-    sound-mono (a .s) (length (now (a .src))) (length (c .cell-by-cell .last .1 .0)) (S .pre .0 .0) (omega (arith, S .pre .0 .1)) (omega (arith, S .pre .0 .2))
+  abbrev costs : List Float
+  costs = now (start c .args .costs)
 
--- END
+  abbrev colors : List Float
+  colors = now (start c .args .colors)
+
+  abbrev map : List ℕ
+  map = now (start c .args .map)
+
+  abbrev walked : List ℕ
+  walked = c .cell-by-cell .last .1 .0
+
+  abbrev best : Choice
+  best = c .before .before .before .before .before .line-best .result
+
+  abbrev limit : Float
+  limit = c .before .before .total .result
+
+  -- the cost begins with that of flag 0
+  halted : let a = start c .args in
+      Halted src costs colors (a .n) (a .lambda) (a .s) map (a .l) (rowCost costs (a .ctx) 0) limit (c .cell-by-cell .result) walked
+  halted =
+      let a = start c .args in
+      subst
+      (λ (row : Float). Halted src costs colors (a .n) (a .lambda) (a .s) map (a .l) row limit (c .cell-by-cell .result) walked)
+      (c .before .before .before .before .row-cost .ensures)
+      (c .cell-by-cell .ensures)
+
+  plain : let a = start c .args in Plain src costs colors (a .n) (a .lambda) (a .s) (a .l) best
+  plain =
+      let a = start c .args in
+      subst
+      (Plain src costs colors (a .n) (a .lambda) (a .s) (a .l))
+      (sym (c .before .before .before .before .before .line-best .ensures))
+      (best-plain src costs colors (a .n) (a .lambda) (a .s) map (a .l) (a .ctx) (omega (arith, start c .pre .1 .0)))
+
+  sound : Sound (start c .args .s) (length walked)
+  sound =
+      let S = start c in
+      let e : length walked ≡ length map = ap length (c .cell-by-cell .ensures .put) ∙ length-cells _ _ _ _ _ _ _ _ _ _ in
+      sound-mono (S .args .s) (length src) (length walked) (S .pre .0 .0) (omega (arith, S .pre .0 .1)) (omega (arith, S .pre .0 .2))
+
 line-best-requires : tie.Need-line-best-requires
 line-best-requires c κs = search needs
 
@@ -46,16 +86,39 @@ same-length : tie.Need-same-length
 same-length c = search needs
 
 returns : tie.Need-returns
-returns c = let a = c .before .before .before .before .before .before .before .before .before .before .before .before .before .before .args in own-wins (now (a .src)) (now (a .costs)) (now (a .colors)) (a .n) (a .lambda) (a .s) (c .before .before .before .before .before .before .before .before .before .before .before .before .before .before .pre .1 .4) (c .before .before .before .before .before .before .before .before .before .before .before .before .before .before .pre .1 .0) (now (a .map)) (a .l) (a .ctx) (c .before .before .before .before .cell-by-cell .result) (c .before .before .before .before .before .before .before .before .before .line-best .result) (c .before .before .before .before .cell-by-cell .last .1 .0) (c .before .before .before .before .before .before .total .result) (c .before .before .before .before .before .before .before .before .before .line-best .ensures) (c .before .before .before .before .before .before .total .ensures) (halted (c .before .before .before .before)) (rw (c .before .total2 .ensures) at (c .if1 .taken))
+returns c =
+    let p = c .before .before .before .before in
+    let S = start p in
+    let less : lt (totalOf (p .cell-by-cell .result) (S .args .lambda)) (limit p) ≡ true =
+    rw (c .before .total2 .ensures) at (c .if1 .taken) in
+    own-wins (src p) (costs p) (colors p) (S .args .n) (S .args .lambda) (S .args .s) (S .pre .1 .4) (S .pre .1 .0)
+    (map p) (S .args .l) (S .args .ctx) (p .cell-by-cell .result) (best p) (walked p) (limit p)
+    (p .before .before .before .before .before .line-best .ensures) (p .before .before .total .ensures) (halted p) less
 
 put-best-requires : tie.Need-put-best-requires
-put-best-requires c κs = let h : Sound (c .before .before .before .before .before .before .before .before .before .before .before .before .before .before .before .args .s) (length (c .before .before .before .before .before .cell-by-cell .last .1 .0)) = sound (c .before .before .before .before .before) in (h, c .before .before .before .before .before .before .before .before .before .before .before .before .before .before .before .pre .0 .3, plain (c .before .before .before .before .before) .2)
+put-best-requires c κs =
+    let p = c .before .before .before .before .before in
+    let h : Sound (start p .args .s) (length (walked p)) = sound p in
+    (h, start p .pre .0 .3, plain p .2)
 
 same-length-2 : tie.Need-same-length-2
 same-length-2 c = search needs
 
 returns-2 : tie.Need-returns-2
-returns-2 c = let a = c .before .before .before .before .before .before .before .before .before .before .before .before .before .before .before .before .before .before .args in let H = halted (c .before .before .before .before .before .before .before .before) in (own-loses (now (a .src)) (now (a .costs)) (now (a .colors)) (a .n) (a .lambda) (a .s) (c .before .before .before .before .before .before .before .before .before .before .before .before .before .before .before .before .before .before .pre .1 .4) (c .before .before .before .before .before .before .before .before .before .before .before .before .before .before .before .before .before .before .pre .1 .0) (now (a .map)) (a .l) (a .ctx) (c .before .before .before .before .before .before .before .before .cell-by-cell .result) (c .before .before .before .before .before .before .before .before .before .before .before .before .before .line-best .result) (c .before .before .before .before .before .before .before .before .cell-by-cell .last .1 .0) (c .before .before .before .before .before .before .before .before .before .before .total .result) (c .before .before .before .before .before .before .before .before .before .before .before .before .before .line-best .ensures) (c .before .before .before .before .before .before .before .before .before .before .total .ensures) H (rw (c .before .before .before .before .before .total2 .ensures) at (c .before .before .before .before .if1 .left)), c .before .before .put-best .ensures ∙ rw (H .put) (put-plain (now (a .src)) (now (a .costs)) (now (a .colors)) (a .n) (a .lambda) (a .s) (length (now (a .src))) (c .before .before .before .before .before .before .before .before .before .before .before .before .before .before .before .before .before .before .pre .0 .0) (now (a .map)) (a .l) (a .ctx) (c .before .before .before .before .before .before .before .before .before .before .before .before .before .before .before .before .before .before .pre .0 .3) (H .cells) (H .few) (c .before .before .before .before .before .before .before .before .before .before .before .before .before .line-best .result) (plain (c .before .before .before .before .before .before .before .before))))
+returns-2 c =
+    let p = c .before .before .before .before .before .before .before .before in
+    let S = start p in
+    let H = halted p in
+    let not-less : lt (totalOf (p .cell-by-cell .result) (S .args .lambda)) (limit p) ≡ false =
+    rw (c .before .before .before .before .before .total2 .ensures) at (c .before .before .before .before .if1 .left) in (
+      own-loses (src p) (costs p) (colors p) (S .args .n) (S .args .lambda) (S .args .s) (S .pre .1 .4) (S .pre .1 .0)
+          (map p) (S .args .l) (S .args .ctx) (p .cell-by-cell .result) (best p) (walked p) (limit p)
+          (p .before .before .before .before .before .line-best .ensures) (p .before .before .total .ensures) H not-less,
+      c .before .before .put-best .ensures
+          ∙ rw (H .put)
+          (put-plain (src p) (costs p) (colors p) (S .args .n) (S .args .lambda) (S .args .s) (length (src p)) (S .pre .0 .0)
+          (map p) (S .args .l) (S .args .ctx) (S .pre .0 .3) (H .cells) (H .few) (best p) (plain p)),
+    )
 
 pub choose-line-spec : {M : Type 1} → statement M
 choose-line-spec =

@@ -16,11 +16,9 @@ Inv-loop src colors s l t₀ a₀ t a = (t ≡ eight (λ c. distLine src colors 
 abbrev μ-loop : tie.MeasureT-loop
 μ-loop src colors s l t₀ a₀ t a = s .len - a
 
--- BEGIN inside
 inside : (c : tie.Then1 Inv-loop μ-loop) → placeAt (c .before .before .before .before .args .s) (c .before .before .before .before .args .l) (c .before .before .loop .a) < length (now (c .before .before .before .before .args .src))
 inside c = c .before .before .before .before .pre .0 .inside (c .before .before .before .before .args .l) (c .before .before .loop .a) (c .before .before .before .before .pre .1) (c .if1 .taken)
 
--- END
 loop-holds : tie.Need-loop-holds Inv-loop μ-loop
 unfolding distLine
 loop-holds c = (refl, omega arith)

@@ -15,14 +15,12 @@ Inv-loop src map colors s l t₀ a₀ t a = (t ≡ distLine src colors s l (λ b
 abbrev μ-loop : tie.MeasureT-loop
 μ-loop src map colors s l t₀ a₀ t a = s .len - a
 
--- BEGIN inside
 inside : (c : tie.Then1 Inv-loop μ-loop) → placeAt (c .before .before .before .before .before .args .s) (c .before .before .before .before .before .args .l) (c .before .before .loop .a) < length (now (c .before .before .before .before .before .args .src))
 inside c = c .before .before .before .before .before .pre .0 .0 .inside (c .before .before .before .before .before .args .l) (c .before .before .loop .a) (c .before .before .before .before .before .pre .0 .2) (c .if1 .taken)
 
 above : (c : tie.Then1 Inv-loop μ-loop) → placeAt (c .before .before .before .before .before .args .s) (c .before .before .before .before .before .args .l - 1) (c .before .before .loop .a) < length (now (c .before .before .before .before .before .args .src))
 above c = c .before .before .before .before .before .pre .0 .0 .inside (c .before .before .before .before .before .args .l - 1) (c .before .before .loop .a) (omega (arith, c .before .before .before .before .before .pre .0 .2)) (c .if1 .taken)
 
--- END
 loop-holds : tie.Need-loop-holds Inv-loop μ-loop
 unfolding distLine
 loop-holds c = (refl, omega arith)

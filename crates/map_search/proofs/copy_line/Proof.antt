@@ -16,7 +16,6 @@ Inv-loop map₀ s l a₀ map a = (map ≡ fill s l (λ b. cellIn map₀ s (l - 1
 abbrev μ-loop : tie.MeasureT-loop
 μ-loop map₀ s l a₀ map a = s .len - a
 
--- BEGIN inside
 inside : (c : tie.Then1 Inv-loop μ-loop) → placeAt (c .before .before .before .before .args .s) (c .before .before .before .before .args .l) (c .before .before .loop .a) < length (now (c .before .before .before .before .args .map))
 inside c = c .before .before .before .before .pre .0 .inside (c .before .before .before .before .args .l) (c .before .before .loop .a) (c .before .before .before .before .pre .1) (c .if1 .taken)
 
@@ -29,7 +28,6 @@ read c =
     let a = c .before .before .before .before .args in
     rw (c .before .before .loop .inv .0) (fill-other (a .s) _ (c .before .before .before .before .pre .0) (a .l) (c .before .before .before .before .pre .1) (λ b. cellIn (now (a .map)) (a .s) (a .l - 1) b) (now (a .map)) (c .before .before .loop .a) (a .l - 1) (c .before .before .loop .a) (omega (arith, c .before .before .before .before .pre .1)) (λ e. omega (arith, c .before .before .before .before .pre .2)) (c .if1 .taken) (c .before .before .loop .inv .2))
 
--- END
 loop-holds : tie.Need-loop-holds Inv-loop μ-loop
 unfolding fill
 loop-holds c = (refl, refl, omega arith)

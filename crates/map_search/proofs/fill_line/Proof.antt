@@ -14,11 +14,9 @@ Inv-loop map₀ s l i a₀ map a = (map ≡ fill s l (λ b. i) map₀ a) × (len
 abbrev μ-loop : tie.MeasureT-loop
 μ-loop map₀ s l i a₀ map a = s .len - a
 
--- BEGIN inside
 inside : (c : tie.Then1 Inv-loop μ-loop) → placeAt (c .before .before .before .before .args .s) (c .before .before .before .before .args .l) (c .before .before .loop .a) < length (now (c .before .before .before .before .args .map))
 inside c = c .before .before .before .before .pre .0 .inside (c .before .before .before .before .args .l) (c .before .before .loop .a) (c .before .before .before .before .pre .1) (c .if1 .taken)
 
--- END
 loop-holds : tie.Need-loop-holds Inv-loop μ-loop
 unfolding fill
 loop-holds c = (refl, refl, omega arith)

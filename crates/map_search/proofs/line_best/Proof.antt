@@ -12,7 +12,6 @@ use borrow.Author.Needs.{needs}
 use Rattle.map_search.proofs.line_best.Statement.{statement}
 use Rattle.map_search.proofs.line_best.Tie as tie
 
--- BEGIN inside
 inside : (s : tie.Start) → placeAt (s .args .s) (s .args .l) 0 < length (now (s .args .src))
 inside s = s .pre .0 .0 .inside (s .args .l) 0 (s .pre .0 .2) (s .pre .0 .0 .some)
 
@@ -22,7 +21,6 @@ fit c =
     let a = s .args in
     rw (c .near-cell .ensures) (usable (now (a .map)) (a .s .w) (rowAt ((a .s) .transposed) (a .l) 0) (colAt ((a .s) .transposed) (a .l) 0) (a .n) (s .pre .1 .3) (omega (arith, s .pre .1 .0)) (s .pre .1 .1))
 
--- END
 near-cell-requires : tie.Need-near-cell-requires
 near-cell-requires c κs = omega (arith, inside (c .before .before .before), c .before .before .before .pre .0 .1, c .before .before .before .pre .0 .0 .major (c .before .before .before .args .l) 0)
 

@@ -11,7 +11,6 @@ use mathlib.Core.Path.{refl, _∙_}
 use Rattle.map_search.proofs.one_cell.Statement.{statement}
 use Rattle.map_search.proofs.one_cell.Tie as tie
 
--- BEGIN inside
 inside : (s : tie.Start) → placeAt (s .args .s) (s .args .l) (s .args .a) < length (now (s .args .src))
 inside s = s .pre .0 .0 .inside (s .args .l) (s .args .a) (s .pre .0 .2) (s .pre .0 .3)
 
@@ -21,7 +20,6 @@ fit c =
     let a = s .args in
     rw (c .near-cell .ensures) (usable (now (a .map)) (a .s .w) (rowAt ((a .s) .transposed) (a .l) (a .a)) (colAt ((a .s) .transposed) (a .l) (a .a)) (a .n) (s .pre .1 .3) (omega (arith, s .pre .1 .0)) (s .pre .1 .1))
 
--- END
 place-requires : tie.Need-place-requires
 place-requires c κs = omega (arith, inside (c .before .before .before), c .before .before .before .pre .0 .0 .small)
 

@@ -1,0 +1,9 @@
+pub mod Errors
+pub mod Heads
+pub mod Order
+pub mod Lengths
+pub mod Finds
+pub mod Passed
+pub mod Tries
+pub mod Walk
+pub mod Answer

@@ -1,0 +1,133 @@
+-- One map of a size: what it needs, and what stands after it. Assumes nothing.
+use mathlib.Core.Path.{_≡_, refl, sym, ap, _∙_}
+use mathlib.Core.Bool.{Bool, true, false, cond}
+use mathlib.Core.List.{List, _∷_, map}
+use Prim.Native.Nat.{ℕ, zero, suc, _*_, _≤_}
+use native.Mathlib.Omega.{arith}
+use native.Mathlib.Nat.{mul-le-mul}
+use lib.Dec.{ltb}
+use lib.ListN.{length, getD, take, replicate, length-replicate, List·getD-eq-default}
+use lib.Seq.{take-length}
+use lib.Ieee.{Float, nan, binary32, add, mul, lt}
+use borrow.Author.Tests.{ltb-true, ltb-false}
+use Rattle.lists.specs.Written.{written}
+use Rattle.lists.proofs.Choice.{either-way}
+use Rattle.lists.proofs.Written.{written-take}
+use Rattle.ieee.specs.Numbers.{nat}
+use Rattle.ieee.specs.Bounds.{NotNeg}
+use Rattle.samples.proofs.Ranges.{lambda-within, costs-count, costs-within}
+use Rattle.context.specs.Map.{linesOf}
+use Rattle.near.specs.Near.{Below}
+use Rattle.map_search.specs.Lines.{scanOf, mapOf}
+use Rattle.map_search.specs.Sound.{Sound, Priced, Built}
+use Rattle.map_search.specs.declared.Scan.{Scan}
+use Rattle.map_search.specs.declared.MapResult.{MapResult}
+use Rattle.map_search.specs.declared.MapResult.the-variants.{Found}
+use Rattle.map_search.proofs.Scans.{scan-sound}
+use Rattle.sizes.specs.declared.Block.{Block}
+use Rattle.sizes.specs.declared.Size.{Size}
+use Rattle.search.specs.declared.Best.{Best}
+use Rattle.search.specs.Search.{Standing, judged, tried}
+use Rattle.search.specs.Steps.{Ready, Stands}
+use Rattle.search.proofs.Finds.{zeros-below}
+
+-- ---- a found map
+module _ (b : Block) (z : Size) (t : Bool) (best : Best) (error bits : Float) (cells lines map₀ flags₀ : List ℕ)
+    (s : Standing) (S : Stands s best map₀ flags₀) where
+  abbrev all : Float
+  all = add binary32 (z .head) bits
+
+  abbrev total : Float
+  total = add binary32 error (mul binary32 (b .lambda) all)
+
+  -- its total is lower: it stands
+  pub lower-stands : (map flags : List ℕ) → length cells ≤ length map₀ → length lines ≤ length flags₀
+      → map ≡ written map₀ 0 (take (length cells) cells) → flags ≡ written flags₀ 0 (take (length lines) lines)
+      → lt total (best .total) ≡ true
+      → Stands (judged b z t s cells lines (Found error bits))
+      (record { total = total; n = z .n; colors = z .colors; transposed = t; bits = all }) map flags
+  lower-stands map flags room lineRoom m f e =
+      rw (rw (S .is) at e) (record {
+        is = refl;
+        cells = rw (m, take-length cells) (written-take map₀ cells room);
+        signs = rw (f, take-length lines) (written-take flags₀ lines lineRoom);
+      })
+
+  -- it is not: what stood stands
+  pub higher-stands : lt total (best .total) ≡ false → Stands (judged b z t s cells lines (Found error bits)) best map₀ flags₀
+  higher-stands e = rw (rw (S .is) at e) S
+
+-- ---- what the map search asks
+-- buffers of the same lengths are as good
+pub still-ready : {samples costs : List Float} {b : Block} {room lineRoom : ℕ} (room' lineRoom' : ℕ)
+    → Ready samples costs b room lineRoom → room' ≡ room → lineRoom' ≡ lineRoom → Ready samples costs b room' lineRoom'
+still-ready room' lineRoom' r e f = rw (e, f) r
+
+pub take-zeros : (k n : ℕ) → k ≤ n → take {A = ℕ} k (replicate n 0) ≡ replicate k 0
+take-zeros zero n h = refl
+take-zeros (suc k) zero h = absurd (omega arith)
+take-zeros (suc k) (suc n) h = ap (λ (xs : List ℕ). 0 ∷ xs) (take-zeros k n (omega arith))
+
+pub lines-are : (w h : ℕ) (t : Bool) → scanOf w h t .lines ≡ linesOf t w h
+lines-are w h true = refl
+lines-are w h false = refl
+
+module _ (samples costs : List Float) (b : Block) (room lineRoom : ℕ) (r : Ready samples costs b room lineRoom) where
+  cost-plus : (i : ℕ) → NotNeg (getD costs i nan)
+  cost-plus i = go (ltb i 301) refl
+    where
+      go : (t : Bool) → ltb i 301 ≡ t → NotNeg (getD costs i nan)
+      go true e = costs-within costs (r .priced) i (ltb-true i 301 e) .1
+      go false e =
+          let past : length costs ≤ i = omega (arith, costs-count costs (r .priced), ltb-false i 301 e) in
+          rw (List·getD-eq-default costs nan past) tt
+
+  module _ (t : Bool) (n : ℕ) (two : 2 ≤ n) (eight : n ≤ 8) (s : Scan) (cells lines : List ℕ)
+      (is : s ≡ scanOf (b .width) (b .height) t) (c : cells ≡ replicate (b .width * b .height) 0)
+      (l : lines ≡ replicate (linesOf t (b .width) (b .height)) 0) where
+    pub buildable : (Sound s (length samples) × (length samples ≤ length cells) × (length cells ≤ 4096)
+        × (s .lines ≤ length lines))
+        × ((2 ≤ n) × (n ≤ 8) × (length costs ≡ 301) × Below cells n × Priced costs (b .lambda))
+    buildable =
+        let cells-count : length cells ≡ b .width * b .height = rw c (length-replicate (b .width * b .height) 0) in
+        let lines-count : length lines ≡ linesOf t (b .width) (b .height) =
+        rw l (length-replicate (linesOf t (b .width) (b .height)) 0) in
+        let small : b .width * b .height ≤ 64 * 64 = mul-le-mul (r .wideMost) (r .highMost) in
+        let sound : Sound (scanOf (b .width) (b .height) t) (b .width * b .height) =
+        scan-sound (b .width) (b .height) t (r .wide) (r .wideMost) (r .high) (r .highMost) in (
+          (
+            rw (is, r .count) sound,
+            omega (arith, cells-count, r .count),
+            omega (arith, cells-count),
+            omega (arith, lines-count, ap (λ (q : Scan). q .lines) is, lines-are (b .width) (b .height) t),
+          ),
+          (
+            two,
+            eight,
+            costs-count costs (r .priced),
+            rw c (λ i. zeros-below (b .width * b .height) n i (omega arith)),
+            record { plus = cost-plus; mild = lambda-within (b .lambda) (r .weight) },
+          ),
+        )
+
+  -- and there is room for what it gives
+  pub room-for : (t : Bool) (cells₀ lines₀ cells lines : List ℕ) → cells₀ ≡ replicate (b .width * b .height) 0
+      → lines₀ ≡ replicate (linesOf t (b .width) (b .height)) 0 → length cells ≡ length cells₀ → length lines ≡ length lines₀
+      → (length cells ≤ room) × (length lines ≤ lineRoom)
+  room-for t cells₀ lines₀ cells lines c l kept keptLines =
+      let few : linesOf t (b .width) (b .height) ≤ lineRoom =
+      either-way (λ n. n ≤ lineRoom) t (b .width) (b .height) (r .columns) (r .rows) in (
+        omega (arith, kept ∙ ap length c ∙ length-replicate (b .width * b .height) 0, r .room),
+        omega (arith, keptLines ∙ ap length l ∙ length-replicate (linesOf t (b .width) (b .height)) 0, few),
+      )
+
+-- the definition's map is the one that was built
+module _ (samples costs : List Float) (b : Block) (z : Size) (t : Bool) (best : Best) (s : Standing) (is : best ≡ s .best)
+    (scan : Scan) (colours : List Float) (cells₀ lines₀ cells lines : List ℕ) (found : MapResult)
+    (e : scan ≡ scanOf (b .width) (b .height) t) (v : colours ≡ map (nat binary32) (z .colors))
+    (c : cells₀ ≡ replicate (b .width * b .height) 0) (l : lines₀ ≡ replicate (linesOf t (b .width) (b .height)) 0)
+    (B : Built (mapOf samples costs colours (z .n) (b .lambda) scan (z .head) (best .total) cells₀ lines₀) found cells lines) where
+  pub tried-is : (r : MapResult) → found ≡ r → tried samples costs b z t s ≡ judged b z t s cells lines r
+  unfolding tried
+  tried-is r told =
+      rw (← told, B .result, B .cells, B .signs, e, v, c, l, is, lines-are (b .width) (b .height) t) refl

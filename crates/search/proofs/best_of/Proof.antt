@@ -1,0 +1,146 @@
+use mathlib.Core.Path.{_≡_, refl, ap, _∙_}
+use mathlib.Core.Bool.{false}
+use native.Mathlib.Nat.{lt-of-le-of-lt, mul-le-mul, le-refl}
+use denote.Ref.{now}
+use lib.Dec.{lit<}
+use lib.ListN.{length, replicate}
+use lib.Ieee.{inf, binary32, div, ofBits}
+use borrow.Author.Needs.{needs}
+use Rattle.sizes.proofs.Order.{opened, SizeTo}
+use Rattle.search.proofs.Tries.{still-ready}
+use Rattle.search.proofs.Walk.{Walking, walking-starts, walking-ends, size-known, walking-stops, walking-goes-on, fewer-left}
+use Rattle.search.proofs.best_of.Statement.{statement}
+use Rattle.search.proofs.best_of.Tie as tie
+
+abbrev Inv-loop : tie.InvT-loop
+Inv-loop samples costs b h table cuts map₀ flags₀ lbs left₀ best₀ k₀ map flags left best k =
+    (length map ≡ length map₀) × (length flags ≡ length flags₀) × Walking samples costs b h lbs left best k map flags
+
+abbrev μ-loop : tie.MeasureT-loop
+μ-loop samples costs b h table cuts map₀ flags₀ lbs left₀ best₀ k₀ map flags left best k = length (opened left)
+
+over-zero : div binary32 (ofBits binary32 1065353216) (ofBits binary32 0) ≡ inf false
+unfolding ofBits div
+over-zero = refl
+
+-- the size in turn is one that the block has
+known : (c : tie.In-loop Inv-loop μ-loop) → SizeTo (c .before .before .before .before .before .before .before .before .before .before .before .args .h .n) (c .before .loop .k)
+known c =
+    let a = c .before .before .before .before .before .before .before .before .before .before .before .args in
+    let l = c .before .loop in
+    size-known (now (a .samples)) (now (a .costs)) (a .b) (a .h) _ (c .before .before .before .before .before .before .lbs-of .ensures) (l .left) (l .best) (l .k) (l .map) (l .flags)
+    (l .inv .2) (c .loop-test .taken)
+
+lbs-of-requires : tie.Need-lbs-of-requires Inv-loop μ-loop
+lbs-of-requires c κs = c .before .before .before .before .pre .0
+
+open-sizes-requires : tie.Need-open-sizes-requires Inv-loop μ-loop
+open-sizes-requires c κs = search needs
+
+next-size-requires : tie.Need-next-size-requires Inv-loop μ-loop
+next-size-requires c κs = search needs
+
+loop-holds : tie.Need-loop-holds Inv-loop μ-loop
+loop-holds c =
+    let a = c .before .before .before .before .before .before .before .before .before .args in (
+      refl,
+      refl,
+      walking-starts (now (a .samples)) (now (a .costs)) (a .b) (a .h) _ (c .before .before .before .before .lbs-of .ensures) _ _ _ _ _
+          (c .before .before .before .open-sizes .ensures) (ap (λ x. record { total = x; n = 0; colors = replicate 8 0; transposed = false; bits = ofBits binary32 0 }) over-zero)
+          (c .next-size .ensures),
+    )
+
+mul-if1 : tie.Need-mul-if1 Inv-loop μ-loop
+mul-if1 c = record { fits = lt-of-le-of-lt (mul-le-mul (known c .1) (le-refl 4)) (lit< tt) }
+
+array-read-if1 : tie.Need-array-read-if1 Inv-loop μ-loop
+array-read-if1 c = lt-of-le-of-lt (known c .1) (lit< tt)
+
+same-length : tie.Need-same-length Inv-loop μ-loop
+same-length c = c .before .before .before .loop .inv .0
+
+same-length-2 : tie.Need-same-length-2 Inv-loop μ-loop
+same-length-2 c = c .before .before .before .loop .inv .1
+
+returns : tie.Need-returns Inv-loop μ-loop
+returns c =
+    let a = c .before .before .before .before .before .before .before .before .before .before .before .before .before .args in
+    let l = c .before .before .before .loop in
+    walking-stops (now (a .samples)) (now (a .costs)) (a .b) (a .h) _ (c .before .before .before .before .before .before .before .before .lbs-of .ensures) (l .left) (l .best) (l .k) (l .map) (l .flags)
+    (l .inv .2) (c .before .before .loop-test .taken) (c .if1 .taken)
+
+size-of-requires : tie.Need-size-of-requires Inv-loop μ-loop
+size-of-requires c κs = let k = known (c .before .before) in (c .before .before .before .before .before .before .before .before .before .before .before .before .before .pre .0, k)
+
+try-size-requires : tie.Need-try-size-requires Inv-loop μ-loop
+try-size-requires c κs =
+    let k = known (c .before .before .before .before .before) in
+    let l = c .before .before .before .before .before .before .loop in
+    let e = c .before .before .size-of .ensures in (
+      still-ready _ _ (c .before .before .before .before .before .before .before .before .before .before .before .before .before .before .before .before .pre .1) (l .inv .0) (l .inv .1),
+      rw e (k .0),
+      rw e (k .1),
+    )
+
+array-write-left : tie.Need-array-write-left Inv-loop μ-loop
+array-write-left c = lt-of-le-of-lt (known (c .before .before .before .before .before .before .before .before .before .before) .1) (lit< tt)
+
+next-size-requires-2 : tie.Need-next-size-requires-2 Inv-loop μ-loop
+next-size-requires-2 c κs = search needs
+
+loop-less : tie.Need-loop-less Inv-loop μ-loop
+loop-less c =
+    let a = c .before .before .before .before .before .before .before .before .before .before .before .before .before .before .before .before .before .before .before .before .before .before .before .before .args in
+    let l = c .before .before .before .before .before .before .before .before .before .before .before .before .before .before .loop in
+    fewer-left (now (a .samples)) (now (a .costs)) (a .b) (a .h) _ (c .before .before .before .before .before .before .before .before .before .before .before .before .before .before .before .before .before .before .before .lbs-of .ensures) (l .left) (l .best) (l .k) (l .map) (l .flags)
+    (l .inv .2) (c .before .before .before .before .before .before .before .before .before .before .before .before .before .loop-test .taken)
+
+loop-again : tie.Need-loop-again Inv-loop μ-loop
+loop-again c =
+    let a = c .before .before .before .before .before .before .before .before .before .before .before .before .before .before .before .before .before .before .before .before .before .before .before .before .args in
+    let l = c .before .before .before .before .before .before .before .before .before .before .before .before .before .before .loop in
+    let t = c .before .before .before .before .before .before .before in (
+      t .try-size .kept .1 .1 .1 .1 .1 .0 ∙ l .inv .0,
+      t .try-size .kept .1 .1 .1 .1 .1 .1 .0 ∙ l .inv .1,
+      walking-goes-on (now (a .samples)) (now (a .costs)) (a .b) (a .h) _ (c .before .before .before .before .before .before .before .before .before .before .before .before .before .before .before .before .before .before .before .lbs-of .ensures) (l .left) (l .best) (l .k) (l .map)
+          (l .flags) (l .inv .2) (c .before .before .before .before .before .before .before .before .before .before .before .before .before .loop-test .taken) (c .before .before .before .before .before .before .before .before .before .before .before .if1 .left) _
+          (c .before .before .before .before .before .before .before .before .before .before .size-of .ensures) _ _ _ _ (t .try-size .ensures (l .inv .2 .standing) (l .inv .2 .stands)) (c .next-size2 .ensures),
+    )
+
+same-length-3 : tie.Need-same-length-3 Inv-loop μ-loop
+same-length-3 c = c .before .loop .inv .0
+
+same-length-4 : tie.Need-same-length-4 Inv-loop μ-loop
+same-length-4 c = c .before .loop .inv .1
+
+returns-2 : tie.Need-returns-2 Inv-loop μ-loop
+returns-2 c =
+    let a = c .before .before .before .before .before .before .before .before .before .before .before .args in
+    let l = c .before .loop in
+    walking-ends (now (a .samples)) (now (a .costs)) (a .b) (a .h) _ (c .before .before .before .before .before .before .lbs-of .ensures) (l .left) (l .best) (l .k) (l .map) (l .flags)
+    (l .inv .2) (c .loop-test .left)
+
+pub best-of-spec : {M : Type 1} → statement M
+best-of-spec =
+    tie.close
+    (tie.spec
+    Inv-loop
+    μ-loop
+    lbs-of-requires
+    open-sizes-requires
+    next-size-requires
+    loop-holds
+    mul-if1
+    array-read-if1
+    same-length
+    same-length-2
+    returns
+    size-of-requires
+    try-size-requires
+    array-write-left
+    next-size-requires-2
+    loop-less
+    loop-again
+    same-length-3
+    same-length-4
+    returns-2)

@@ -1,0 +1,179 @@
+use mathlib.Core.Path.{_≡_, refl, sym, _∙_}
+use mathlib.Core.Bool.{true, cond}
+use Prim.Native.Nat.{_*_}
+use native.Mathlib.Nat.{mul-le-mul, lt-of-le-of-lt}
+use denote.Ref.{now}
+use borrow.Author.Needs.{needs}
+use borrow.Author.Tests.{eq-eqb, ne-eqb, not-true, not-false}
+use lib.Dec.{lit<}
+use Rattle.lists.proofs.Counted.{within-at}
+use Rattle.accept.specs.Accepted.{sidesOk, depthOk}
+use Rattle.accept.proofs.Accepted.{sides-at}
+use Rattle.samples.specs.Samples.{lambdaOk, costsOk, samplesOk}
+use Rattle.search.specs.Search.{roomsOk, largeOk, faultOf}
+use Rattle.search.proofs.fault.Statement.{statement}
+use Rattle.search.proofs.fault.Tie as tie
+
+-- where the call starts
+abbrev start : tie.Else1 → tie.Start
+start c = c .before .before .before .before
+
+abbrev start2 : tie.Else2 → tie.Start
+start2 c = start (c .before .before .before)
+
+abbrev start3 : tie.Else3 → tie.Start
+start3 c = start2 (c .before .before)
+
+abbrev start5 : tie.Else5 → tie.Start
+start5 c = start3 (c .before .before .before .before)
+
+abbrev start6 : tie.Else6 → tie.Start
+start6 c = start5 (c .before .before)
+
+-- the tests that were passed
+sides : (c : tie.Else1) → sidesOk (start c .args .b .width) (start c .args .b .height) ≡ true
+sides c = sym (c .before .sides-ok .ensures) ∙ not-false _ (c .if1 .left)
+
+depth : (c : tie.Else2) → depthOk (start2 c .args .b .bd) ≡ true
+unfolding depthOk
+depth c = sym (c .before .within .ensures) ∙ not-false _ (c .if2 .left)
+
+lambda : (c : tie.Else4) → lambdaOk (start3 (c .before .before) .args .b .lambda) ≡ true
+lambda c = sym (c .before .lambda-ok .ensures) ∙ not-false _ (c .if4 .left)
+
+costs : (c : tie.Else5) → costsOk (now (start5 c .args .costs)) ≡ true
+costs c = sym (c .before .costs-ok .ensures) ∙ not-false _ (c .if5 .left)
+
+samples : (c : tie.Else6) → samplesOk (start6 c .args .b .bd) (now (start6 c .args .samples)) ≡ true
+samples c = sym (c .before .samples-ok .ensures) ∙ not-false _ (c .if6 .left)
+
+rooms : (c : tie.Else7) → let a = start6 (c .before .before) .args in roomsOk (a .b .width) (a .b .height) (a .cells) (a .lines) ≡ true
+rooms c = sym (c .before .rooms-ok .ensures) ∙ not-false _ (c .if7 .left)
+
+sides-ok-requires : tie.Need-sides-ok-requires
+sides-ok-requires c κs = search needs
+
+returns : tie.Need-returns
+unfolding faultOf
+returns c = rw (sym (c .before .sides-ok .ensures) ∙ not-true _ (c .if1 .taken)) refl
+
+cast-within : tie.Need-cast-within
+cast-within c = search needs
+
+within-requires : tie.Need-within-requires
+within-requires c κs = search needs
+
+returns-2 : tie.Need-returns-2
+unfolding faultOf depthOk
+returns-2 c = rw (sides (c .before .before .before), sym (c .before .within .ensures) ∙ not-true _ (c .if2 .taken)) refl
+
+mul-if3 : tie.Need-mul-if3
+mul-if3 c =
+    let f = sides-at _ _ (sides (c .before .before .before .before)) in
+    record { fits = lt-of-le-of-lt (mul-le-mul (f .0 .1) (f .1 .1)) (lit< tt) }
+
+returns-3 : tie.Need-returns-3
+unfolding faultOf
+returns-3 c = rw (sides (c .before .before .before .before .before), depth (c .before .before), ne-eqb _ _ (c .if3 .taken)) refl
+
+lambda-ok-requires : tie.Need-lambda-ok-requires
+lambda-ok-requires c κs = search needs
+
+returns-4 : tie.Need-returns-4
+unfolding faultOf
+returns-4 c = let e = c .before .before in
+    rw (
+      sides (e .before .before .before .before .before),
+      depth (e .before .before),
+      eq-eqb _ _ (e .if3 .left),
+      sym (c .before .lambda-ok .ensures) ∙ not-true _ (c .if4 .taken),
+    ) refl
+
+costs-ok-requires : tie.Need-costs-ok-requires
+costs-ok-requires c κs = search needs
+
+returns-5 : tie.Need-returns-5
+unfolding faultOf
+returns-5 c = let e = c .before .before .before .before in
+    rw (
+      sides (e .before .before .before .before .before),
+      depth (e .before .before),
+      eq-eqb _ _ (e .if3 .left),
+      lambda (c .before .before),
+      sym (c .before .costs-ok .ensures) ∙ not-true _ (c .if5 .taken),
+    ) refl
+
+samples-ok-requires : tie.Need-samples-ok-requires
+unfolding depthOk
+samples-ok-requires c κs = within-at 8 12 _ (depth (c .before .before .before .before .before .before))
+
+returns-6 : tie.Need-returns-6
+unfolding faultOf
+returns-6 c = let e = c .before .before .before .before .before .before in
+    rw (
+      sides (e .before .before .before .before .before),
+      depth (e .before .before),
+      eq-eqb _ _ (e .if3 .left),
+      lambda (c .before .before .before .before),
+      costs (c .before .before),
+      sym (c .before .samples-ok .ensures) ∙ not-true _ (c .if6 .taken),
+    ) refl
+
+rooms-ok-requires : tie.Need-rooms-ok-requires
+rooms-ok-requires c κs =
+    let f = sides-at _ _ (sides (c .before .before .before .before .before .before .before .before .before .before .before)) in
+    (f .0 .1, f .1 .1)
+
+-- what is left once the samples have passed
+rest : (c : tie.Else6) → let a = start6 c .args in
+    faultOf (now (a .samples)) (now (a .costs)) (a .b) (a .cells) (a .lines)
+    ≡ cond (roomsOk (a .b .width) (a .b .height) (a .cells) (a .lines)) (cond (largeOk (a .b .width) (a .b .height)) 0 8) 7
+unfolding faultOf
+rest c = let e = c .before .before .before .before .before .before in
+    rw (
+      sides (e .before .before .before .before .before),
+      depth (e .before .before),
+      eq-eqb _ _ (e .if3 .left),
+      lambda (c .before .before .before .before),
+      costs (c .before .before),
+      samples c,
+    ) refl
+
+returns-7 : tie.Need-returns-7
+returns-7 c = sym (rest (c .before .before) ∙ rw (sym (c .before .rooms-ok .ensures) ∙ not-true _ (c .if7 .taken)) refl)
+
+large-ok-requires : tie.Need-large-ok-requires
+large-ok-requires c κs = search needs
+
+returns-8 : tie.Need-returns-8
+returns-8 c =
+    sym (rest (c .before .before .before .before)
+    ∙ rw (rooms (c .before .before), sym (c .before .large-ok .ensures) ∙ not-true _ (c .if8 .taken)) refl)
+
+returns-9 : tie.Need-returns-9
+returns-9 c =
+    sym (rest (c .before .before .before .before)
+    ∙ rw (rooms (c .before .before), sym (c .before .large-ok .ensures) ∙ not-false _ (c .if8 .left)) refl)
+
+pub fault-spec : {M : Type 1} → statement M
+fault-spec =
+    tie.close
+    (tie.spec
+    sides-ok-requires
+    returns
+    cast-within
+    within-requires
+    returns-2
+    mul-if3
+    returns-3
+    lambda-ok-requires
+    returns-4
+    costs-ok-requires
+    returns-5
+    samples-ok-requires
+    returns-6
+    rooms-ok-requires
+    returns-7
+    large-ok-requires
+    returns-8
+    returns-9)

@@ -1,0 +1,68 @@
+use mathlib.Core.Path.{sym, ap, _∙_}
+use lib.Seq.{length-take-le}
+use Prim.Native.Nat.{ℕ, _*_, _≤_}
+use native.Mathlib.Nat.{mul-le-mul}
+use lib.ListN.{replicate}
+use Rattle.lists.proofs.Choice.{either-way}
+use Rattle.search.proofs.Tries.{take-zeros}
+use borrow.Author.Needs.{needs}
+use Rattle.search.proofs.try_scan.Statement.{statement}
+use Rattle.search.proofs.try_scan.Tie as tie
+
+-- the cells and the lines are at most as many as the buffers' places
+few-cells : (s : tie.Start) → s .args .b .width * s .args .b .height ≤ 4096
+few-cells s = mul-le-mul (s .pre .0 .wideMost) (s .pre .0 .highMost)
+
+few-lines : (c : tie.After-lines-of) → c .lines-of .result ≤ 64
+few-lines c =
+    let s = c .before .before .before .before .before in
+    rw (c .lines-of .ensures) (either-way (λ n. n ≤ 64) (s .args .transposed) (s .args .b .width) (s .args .b .height)
+    (s .pre .0 .wideMost) (s .pre .0 .highMost))
+
+lines-of-requires : tie.Need-lines-of-requires
+lines-of-requires c κs = search needs
+
+mul-cells : tie.Need-mul-cells
+mul-cells c = search needs
+
+array-borrow-prefix-cells : tie.Need-array-borrow-prefix-cells
+array-borrow-prefix-cells c = few-cells (c .before .before .before .before .before .before)
+
+slice-aggregate-try-in : tie.Need-slice-aggregate-try-in
+slice-aggregate-try-in c = sym (length-take-le {A = ℕ} _ (replicate 4096 0) (few-cells (c .before .before .before .before .before .before .before)))
+
+array-borrow-prefix-lines : tie.Need-array-borrow-prefix-lines
+array-borrow-prefix-lines c = few-lines (c .before .before)
+
+slice-aggregate-try-in-2 : tie.Need-slice-aggregate-try-in-2
+slice-aggregate-try-in-2 c = sym (length-take-le {A = ℕ} _ (replicate 64 0) (few-lines (c .before .before .before)))
+
+try-in-requires : tie.Need-try-in-requires
+try-in-requires c κs =
+    let s = c .before .before .before .before .before .before .before .before .before .before in
+    let l = c .before .before .before .before .before in
+    (s .pre, (take-zeros _ 4096 (few-cells s), take-zeros _ 64 (few-lines l) ∙ ap (λ k. replicate {A = ℕ} k 0) (l .lines-of .ensures)))
+
+same-length : tie.Need-same-length
+same-length c = search needs
+
+same-length-2 : tie.Need-same-length-2
+same-length-2 c = search needs
+
+returns : tie.Need-returns
+returns c = search needs
+
+pub try-scan-spec : {M : Type 1} → statement M
+try-scan-spec =
+    tie.close
+    (tie.spec
+    lines-of-requires
+    mul-cells
+    array-borrow-prefix-cells
+    slice-aggregate-try-in
+    array-borrow-prefix-lines
+    slice-aggregate-try-in-2
+    try-in-requires
+    same-length
+    same-length-2
+    returns)

@@ -1,0 +1,136 @@
+-- Document 01, 'Sizes' and 'Numbers returned': the search of a block.
+use mathlib.Core.Path.{_≡_}
+use mathlib.Core.Bool.{Bool, true, false, cond, _&&_, _||_}
+use mathlib.Core.List.{List, [], _∷_, map}
+use Prim.Native.Nat.{ℕ, _*_, max}
+use lib.Dec.{eqb, leb}
+use lib.ListN.{length, take, replicate}
+use lib.Ieee.{Float, inf, binary32, add, mul, le, lt, ofBits}
+use Rattle.lists.specs.Written.{front}
+use Rattle.ieee.specs.Numbers.{nat}
+use Rattle.accept.specs.Accepted.{sidesOk, depthOk}
+use Rattle.samples.specs.Samples.{lambdaOk, costsOk, samplesOk, levelOf}
+use Rattle.groups.specs.declared.Histogram.{Histogram}
+use Rattle.groups.specs.Histogram.{histogramOf}
+use Rattle.map_search.specs.Lines.{scanOf, mapOf}
+use Rattle.map_search.specs.declared.MapResult.{MapResult}
+use Rattle.map_search.specs.declared.MapResult.the-variants.{Found, Beaten}
+use Rattle.sizes.specs.declared.Block.{Block}
+use Rattle.sizes.specs.declared.Size.{Size}
+use Rattle.sizes.specs.Sizes.{sentFor, sizeOf}
+use Rattle.sizes.specs.Order.{sizesTo, ordered}
+use Rattle.search.specs.declared.Palette.{Palette}
+use Rattle.search.specs.declared.Best.{Best}
+
+-- the best map so far; while there is none, its total is +infinity
+pub record Standing : Type 0 where
+  pub best : Best
+  pub map : List ℕ
+  pub flags : List ℕ
+
+abbrev pub none : Standing
+none = record {
+  best = record { total = inf false; n = 0; colors = replicate 8 0; transposed = false; bits = ofBits binary32 0 };
+  map = [];
+  flags = [];
+}
+
+-- what stands after a map of size z: a found one only if its total is strictly lower
+abbrev pub judged : Block → Size → Bool → Standing → List ℕ → List ℕ → MapResult → Standing
+judged b z t s map flags Beaten = s
+judged b z t s map flags (Found error bits) =
+    let all = add binary32 (z .head) bits in
+    let total = add binary32 error (mul binary32 (b .lambda) all) in
+    cond (lt total (s .best .total))
+    (record { best = record { total = total; n = z .n; colors = z .colors; transposed = t; bits = all }; map = map; flags = flags })
+    s
+
+-- the levels of a block
+abbrev pub histogramIn : List Float → Histogram
+histogramIn samples = histogramOf (map levelOf samples)
+
+module _ (samples costs : List Float) (b : Block) where
+  -- one orientation of a size; the bound is the best total so far
+  unfoldable pub tried : Size → Bool → Standing → Standing
+  tried z t s =
+      let scan = scanOf (b .width) (b .height) t in
+      let colours = map (nat binary32) (z .colors) in
+      let e = mapOf samples costs colours (z .n) (b .lambda) scan (z .head) (s .best .total)
+      (replicate (b .width * b .height) 0) (replicate (scan .lines) 0) in
+      judged b z t s (e .map) (e .flags) (e .result)
+
+  -- plain before transposed, the latter only if an orientation bit is sent
+  unfoldable pub triedBoth : Size → Standing → Standing
+  triedBoth z s = cond (sentFor (b .width) (b .height)) (tried z true (tried z false s)) (tried z false s)
+
+  module _ (h : Histogram) where
+    -- sizes in turn, up to an lb not below the best
+    unfoldable pub visited : List ℕ → Standing → Standing
+    visited [] s = s
+    visited (k ∷ ks) s =
+        let z = sizeOf costs b h k in
+        cond (le (s .best .total) (z .lb)) s (visited ks (triedBoth z s))
+
+    -- all sizes, of which there are at most seven
+    unfoldable pub searched : Standing
+    searched = visited (ordered (λ k. sizeOf costs b h k .lb) 7 (sizesTo (h .n))) none
+
+  -- of the whole block
+  abbrev pub foundIn : Standing
+  foundIn = searched (histogramIn samples)
+
+-- 7: the map's room, and that of the flags, which one per line of either orientation fit
+abbrev pub roomsOk : ℕ → ℕ → ℕ → ℕ → Bool
+roomsOk w h cells lines = leb (w * h) cells && leb (max w h) lines
+
+-- 8: both sides below 16
+abbrev pub largeOk : ℕ → ℕ → Bool
+largeOk w h = leb 16 w || leb 16 h
+
+-- the first of 1 to 8 that applies, or 0; for a map of so many cells and so many flags
+unfoldable pub faultOf : List Float → List Float → Block → ℕ → ℕ → ℕ
+faultOf samples costs b cells lines =
+    let w = b .width in
+    let h = b .height in
+    cond (sidesOk w h)
+    (cond (depthOk (b .bd))
+    (cond (eqb (length samples) (w * h))
+    (cond (lambdaOk (b .lambda))
+    (cond (costsOk costs)
+    (cond (samplesOk (b .bd) samples) (cond (roomsOk w h cells lines) (cond (largeOk w h) 0 8) 7) 6)
+    5)
+    4)
+    3)
+    2)
+    1
+
+-- 9: one level only; 10: more than 32
+abbrev pub levelsFault : ℕ → ℕ
+levelsFault levels = cond (leb 2 levels) (cond (leb levels 32) 0 10) 9
+
+-- the first of 1 to 10 that applies, or 0
+unfoldable pub searchNumber : List Float → List Float → Block → ℕ → ℕ → ℕ
+searchNumber samples costs b cells lines =
+    let fault = faultOf samples costs b cells lines in
+    cond (eqb fault 0) (levelsFault (histogramIn samples .n)) fault
+
+-- a refusal has zeros in every other field
+abbrev pub refusedBy : ℕ → Palette
+refusedBy k = record { number = k; n = 0; colors = replicate 8 0; transposed = false; bits = ofBits binary32 0 }
+
+-- the bit estimate is (head + map bits) × 3
+abbrev pub paletteBy : Best → Palette
+paletteBy b = record {
+  number = 0;
+  n = b .n;
+  colors = b .colors;
+  transposed = b .transposed;
+  bits = mul binary32 (b .bits) (nat binary32 3);
+}
+
+-- the answer of `search`, and both buffers before and after: on 0 cells and flags stand from the front, else nothing is written
+pub record Searches (samples costs : List Float) (b : Block) (map₀ map flags₀ flags : List ℕ) (r : Palette) : Type 0 where
+  pub answer : let number = searchNumber samples costs b (length map₀) (length flags₀) in
+      r ≡ cond (eqb number 0) (paletteBy (foundIn samples costs b .best)) (refusedBy number)
+  pub cells : map ≡ cond (eqb (r .number) 0) (front (foundIn samples costs b .map) map₀) map₀
+  pub signs : flags ≡ cond (eqb (r .number) 0) (front (foundIn samples costs b .flags) flags₀) flags₀

@@ -1,0 +1,28 @@
+-- Document 01, 'Sizes': which sizes there are, and their order.
+use mathlib.Core.Bool.{Bool, cond, not}
+use mathlib.Core.List.{List, [], _∷_}
+use Prim.Native.Nat.{ℕ, zero, suc}
+use lib.Dec.{eqb, leb}
+use lib.Ieee.{Float}
+use Rattle.cells.specs.Cell.{cheapest}
+
+-- those that pass the test, in their order
+unfoldable pub those : (ℕ → Bool) → List ℕ → List ℕ
+those f [] = []
+those f (k ∷ ks) = cond (f k) (k ∷ those f ks) (those f ks)
+
+abbrev pub allSizes : List ℕ
+allSizes = 2 ∷ 3 ∷ 4 ∷ 5 ∷ 6 ∷ 7 ∷ 8 ∷ []
+
+-- from 2 to the lesser of 8 and the number of levels
+abbrev pub sizesTo : ℕ → List ℕ
+sizesTo levels = those (λ k. leb k levels) allSizes
+
+module _ (lb : ℕ → Float) where
+  -- at most m of the sizes, by ascending lb, ties by fewer colours: the first of the cheapest, then the others likewise
+  unfoldable pub ordered : ℕ → List ℕ → List ℕ
+  ordered zero ks = []
+  ordered (suc m) [] = []
+  ordered (suc m) (k ∷ ks) =
+      let first = cheapest lb k ks in
+      first ∷ ordered m (those (λ j. not (eqb j first)) (k ∷ ks))
