@@ -1,9 +1,10 @@
-//! What our `list` and `pred` must answer to a request: the original's words and values where
-//! document 01 accepts, else its number.
+//! What our `list`, `pred` and `search` must answer to a request: the original's words, values or
+//! palette where document 01 accepts, else its number.
 
-use crate::check::{list_number, palette_number};
+use crate::check::{list_number, palette_number, search_number};
 use crate::generate::requests::Request;
-use crate::original::{self, raw_width};
+use crate::generate::searches::SearchRequest;
+use crate::original::{self, raw_width, Found};
 
 #[derive(Clone, Debug, PartialEq)]
 pub struct ListAnswer {
@@ -67,4 +68,53 @@ pub fn pred_answer(request: &Request) -> PredAnswer {
 
 fn room(written: usize, spare: isize) -> usize {
     written.saturating_add_signed(spare)
+}
+
+/// What `search` returns and writes. Map and flags are empty after a refusal.
+#[derive(Clone, Debug, PartialEq)]
+pub struct SearchAnswer {
+    pub number: u32,
+    /// n, eight colours, orientation.
+    pub fields: [u32; 10],
+    pub bits: f32,
+    pub map: Vec<u8>,
+    pub flags: Vec<u8>,
+}
+
+impl SearchAnswer {
+    pub fn new(number: u32, found: Option<Found>) -> Self {
+        let fields = Found::fields(found.as_ref());
+        let bits = found.as_ref().map_or(0.0, |found| found.bits);
+        let (map, flags) =
+            found.map_or_else(Default::default, |f| (f.palette.map, f.palette.flags));
+        SearchAnswer {
+            number,
+            fields,
+            bits,
+            map,
+            flags,
+        }
+    }
+}
+
+pub fn search_answer(request: &SearchRequest) -> SearchAnswer {
+    let number = search_number(&request.asked());
+    SearchAnswer::new(number, run_original(request, number))
+}
+
+/// The original's answer to a request with its number. It is kept away from what tests 1 to 7
+/// refuse, and must decline exactly what 8, 9 and 10 refuse.
+pub fn run_original(request: &SearchRequest, number: u32) -> Option<Found> {
+    if (1..=7).contains(&number) {
+        return None;
+    }
+    let costs = request.costs[..].try_into().expect("test 5 passed");
+    let (w, h, bd) = (request.w, request.h, request.bd);
+    let found = original::search(&request.samples, w, h, bd, request.lambda, costs);
+    assert_eq!(
+        found.is_some(),
+        number == 0,
+        "the original and document 01 differ on whether there is a palette"
+    );
+    found
 }

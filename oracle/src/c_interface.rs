@@ -28,7 +28,7 @@ pub unsafe extern "C" fn rs_search(
     let costs: &Costs = &*costs.cast::<[f32; COSTS]>();
     let fields = slice::from_raw_parts_mut(found, 10);
     let answer = original::search(samples, w, h, bd, lambda, costs);
-    fields.copy_from_slice(&found_fields(answer.as_ref()));
+    fields.copy_from_slice(&Found::fields(answer.as_ref()));
     *bits = answer.as_ref().map_or(0.0, |found| found.bits);
     let Some(Found { palette, .. }) = answer else {
         let number = none_number(samples, w, h);
@@ -41,18 +41,6 @@ pub unsafe extern "C" fn rs_search(
     copy_out(&palette.map, map);
     copy_out(&palette.flags, flags);
     0
-}
-
-fn found_fields(answer: Option<&Found>) -> [u32; 10] {
-    let mut fields = [0; 10];
-    if let Some(Found { palette, .. }) = answer {
-        fields[0] = palette.colors.len() as u32;
-        for (field, &color) in fields[1..].iter_mut().zip(&palette.colors) {
-            *field = u32::from(color);
-        }
-        fields[9] = u32::from(palette.transposed);
-    }
-    fields
 }
 
 unsafe fn copy_out<T: Copy>(from: &[T], to: *mut T) {

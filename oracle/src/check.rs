@@ -1,27 +1,63 @@
 //! Document 01's numbers, from its table and not from the original. The original refuses only
 //! by 8, 9 and 10; these tests keep the other cases away from it.
 
+use crate::lent::COSTS;
 use crate::original::{Block, Corner, Palette};
 
-/// The number for a search, 0 if accepted. Test 7 is about room and has no place here.
-pub fn search_number(block: &Block) -> u32 {
-    let top = f64::from(top(block.bd.clamp(8, 12)));
-    let outside = |v: f32, end: f64| !(0.0..=end).contains(&f64::from(v));
-    if !sides_fit(block.w, block.h) {
-        1
-    } else if !(8..=12).contains(&block.bd) {
-        2
-    } else if block.samples.len() != block.w * block.h {
-        3
-    } else if outside(block.lambda, f64::from(1 << 20)) {
-        4
-    } else if block.costs.iter().any(|&cost| outside(cost, 32.0)) {
-        5
-    } else if block.samples.iter().any(|&sample| outside(sample, top)) {
-        6
-    } else {
-        none_number(&block.samples, block.w, block.h)
+/// What a search is asked, as far as the tests look at it.
+#[derive(Clone, Copy, Debug)]
+pub struct Asked<'a> {
+    pub w: usize,
+    pub h: usize,
+    pub bd: u32,
+    pub lambda: f32,
+    pub costs: &'a [f32],
+    pub samples: &'a [f32],
+    pub map_room: usize,
+    pub flag_room: usize,
+}
+
+/// A block alone has room enough.
+impl<'a> From<&'a Block> for Asked<'a> {
+    fn from(block: &'a Block) -> Self {
+        Asked {
+            w: block.w,
+            h: block.h,
+            bd: block.bd,
+            lambda: block.lambda,
+            costs: &block.costs[..],
+            samples: &block.samples,
+            map_room: usize::MAX,
+            flag_room: usize::MAX,
+        }
     }
+}
+
+/// The number for a search, 0 if accepted: the table's rows 1 to 10 in their order.
+pub fn search_number(asked: &Asked) -> u32 {
+    let (w, h, bd, samples) = (asked.w, asked.h, asked.bd, asked.samples);
+    if !sides_fit(w, h) {
+        1
+    } else if !(8..=12).contains(&bd) {
+        2
+    } else if samples.len() != w * h {
+        3
+    } else if !within(asked.lambda, 1 << 20) {
+        4
+    } else if asked.costs.len() != COSTS || !asked.costs.iter().all(|&cost| within(cost, 32)) {
+        5
+    } else if !samples.iter().all(|&sample| within(sample, top(bd))) {
+        6
+    } else if asked.map_room < w * h || asked.flag_room < w.max(h) {
+        7
+    } else {
+        none_number(samples, w, h)
+    }
+}
+
+/// From 0 to `end`, both included; -0.0 is, NaN is not.
+fn within(value: f32, end: u32) -> bool {
+    (0.0..=f64::from(end)).contains(&f64::from(value))
 }
 
 /// Which of 8, 9 and 10 a block gets, else 0.

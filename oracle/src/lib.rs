@@ -15,11 +15,13 @@ pub mod listing_text;
 mod original;
 mod places;
 pub mod replay;
+pub mod replay_blocks;
 pub mod text;
 pub mod worked;
 
 pub use c_interface::{rs_block_allowed, rs_context, rs_list, rs_pred, rs_search};
 pub use lent::{Costs, COSTS};
 pub use original::{
-    block_allowed, context, list, pred, raw_width, search, unpack, Block, Corner, Found, Palette,
+    block_allowed, context, fill_costs, list, pred, raw_width, search, unpack, Block, Corner,
+    Found, Palette,
 };

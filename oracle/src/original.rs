@@ -35,6 +35,21 @@ pub struct Found {
     pub bits: f32,
 }
 
+impl Found {
+    /// n, eight colours and orientation, in ten places; all 0 for no palette.
+    pub fn fields(found: Option<&Found>) -> [u32; 10] {
+        let mut fields = [0; 10];
+        if let Some(Found { palette, .. }) = found {
+            fields[0] = palette.colors.len() as u32;
+            for (field, &color) in fields[1..].iter_mut().zip(&palette.colors) {
+                *field = u32::from(color);
+            }
+            fields[9] = u32::from(palette.transposed);
+        }
+        fields
+    }
+}
+
 /// What `context` is asked.
 #[derive(Clone, Debug, PartialEq)]
 pub struct Corner {
@@ -56,6 +71,13 @@ pub fn search(
 ) -> Option<Found> {
     lent::lend(costs);
     palette::search(samples, w, h, bd, lambda).map(found)
+}
+
+/// Fills the original's costs from a table ahead of a timed search, which then finds them filled
+/// as it would in the original program. The smallest block that has a palette does it.
+pub fn fill_costs(costs: &Costs) {
+    let samples: [f32; 16] = std::array::from_fn(|at| (at % 2) as f32);
+    search(&samples, 16, 1, 8, 0.0, costs);
 }
 
 fn found(p: palette::Palette) -> Found {

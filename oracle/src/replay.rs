@@ -54,7 +54,7 @@ pub fn bytes(replayed: &Replayed) -> Vec<u8> {
     bytes
 }
 
-fn put_pair(bytes: &mut Vec<u8>, value: u16) {
+pub(crate) fn put_pair(bytes: &mut Vec<u8>, value: u16) {
     bytes.extend(value.to_le_bytes());
 }
 

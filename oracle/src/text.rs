@@ -71,7 +71,7 @@ pub fn answer(case: &Case) -> String {
 }
 
 fn search_answer(b: &Block) -> String {
-    let number = check::search_number(b);
+    let number = check::search_number(&b.into());
     if (1..=7).contains(&number) {
         return format!("= {number}");
     }

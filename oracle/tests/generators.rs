@@ -30,7 +30,7 @@ fn some_block(holds: impl Fn(&Block) -> bool) -> bool {
 fn the_original_declines_exactly_where_document_01_does() {
     let mut numbers = BTreeSet::new();
     for b in blocks() {
-        let number = search_number(&b);
+        let number = search_number(&(&b).into());
         numbers.insert(number);
         assert_eq!(found(&b).is_none(), number != 0);
     }

@@ -1,11 +1,13 @@
 // The front door: everything that is open to callers, each function for all arguments.
 use context::Context;
 use listing::Listed;
+use search::Palette;
 ghost use mathlib.Core.Path.{_≡_};
 ghost use Rattle.counts.specs.Counts.{blockAllowed};
 ghost use Rattle.context.specs.Context.{contextOf};
 ghost use Rattle.accept.specs.Palette.{paletteOf};
 ghost use Rattle.listing.specs.Listing.{Lists, Predicts};
+ghost use Rattle.search.specs.Search.{Searches};
 
 // Whether a block of these sides, in units of 4, may have a palette.
 pub fn block_allowed(bw4: usize, bh4: usize) -> bool
@@ -19,6 +21,25 @@ pub fn color_ctx(map: &[u8], stride: usize, y: usize, x: usize, n: usize) -> Con
     ensures { λ r. ⌜ r ≡ contextOf (now (map .entry)) stride y x n ⌝ }
 {
     context::color_ctx(map, stride, y, x, n)
+}
+
+// Searches a block for its palette, whose map and flags are written from the front of `map` and `flags`; or refuses it and
+// writes nothing.
+pub fn search(
+    samples: &[f32],
+    width: usize,
+    height: usize,
+    bd: u32,
+    lambda: f32,
+    costs: &[f32],
+    map: &mut [u8],
+    flags: &mut [u8],
+) -> Palette
+    ensures { λ r. ⌜ Searches (now (samples .entry)) (now (costs .entry))
+        (record { width = width; height = height; bd = bd; lambda = lambda })
+        (now (map .entry)) (now (map .exit)) (now (flags .entry)) (now (flags .exit)) r ⌝ }
+{
+    search::search(samples, width, height, bd, lambda, costs, map, flags)
 }
 
 // Lists a palette's calls from the front of `words`, or refuses it and writes nothing.

@@ -5,6 +5,13 @@
 // the map. Its line: its place, `list`'s number, count and raw width, a hash of the words, whether the places behind them kept
 // what they held; `pred`'s number, a hash of the bits of its values, and whether the places behind them kept what they held.
 // Functions here may have a `requires`.
+use replaying::bits_of;
+use replaying::pair;
+use replaying::print_buffer;
+use replaying::print_number;
+use replaying::read_front;
+use replaying::size;
+use replaying::wide;
 ghost use mathlib.Core.Path.{_≡_};
 ghost use Prim.Native.Nat.{_<_, _≤_};
 ghost use lib.ListN.{length};
@@ -21,33 +28,6 @@ struct Asked {
     word_room: usize,
     value_room: usize,
     colors: [u16; 8],
-}
-
-fn depth(b: u8) -> u32 {
-    b as u32
-}
-
-fn wide(b: u8) -> usize
-    ensures { λ r. ⌜ r < 256 ⌝ }
-{
-    b as usize
-}
-
-fn pair(low: u8, high: u8) -> u16 {
-    (high as u16) * 256 + low as u16
-}
-
-fn at_most(v: usize, most: usize) -> usize
-    ensures { λ r. ⌜ r ≤ most ⌝ }
-{
-    if v < most { v } else { most }
-}
-
-// A size from two bytes, cut to what the buffers hold.
-fn size(low: u8, high: u8) -> usize
-    ensures { λ r. ⌜ r ≤ 4240 ⌝ }
-{
-    at_most(pair(low, high) as usize, 4240)
 }
 
 fn eight_colors(head: &[u8; 29]) -> [u16; 8] {
@@ -70,22 +50,16 @@ fn asked_by(head: &[u8; 29]) -> Asked
     Asked {
         width: wide(head[0]),
         height: wide(head[1]),
-        bd: depth(head[2]),
+        bd: replaying::word(head[2]),
         n: wide(head[3]),
         transposed: head[4] != 0,
         cached: wide(head[5]),
         lines: wide(head[6]),
-        cells: size(head[7], head[8]),
-        word_room: size(head[9], head[10]),
-        value_room: size(head[11], head[12]),
+        cells: size(head[7], head[8], 4240),
+        word_room: size(head[9], head[10], 4240),
+        value_room: size(head[11], head[12], 4240),
         colors,
     }
-}
-
-fn read_front(bytes: &mut [u8], count: usize)
-    requires { ⌜ count ≤ length (now bytes) ⌝ }
-{
-    io::read_full(0, &mut bytes[..count]);
 }
 
 fn read_cache(cache: &mut [u16], count: usize)
@@ -100,46 +74,6 @@ fn read_cache(cache: &mut [u16], count: usize)
     }
 }
 
-// One step of the hash: times 65,599 and plus the word, below a prime, so that nothing wraps.
-fn hashed(h: u64, word: u32) -> u64
-    requires { ⌜ h < 4294967291 ⌝ }
-    ensures { λ r. ⌜ r < 4294967291 ⌝ }
-{
-    (h * 65599 + word as u64) % 4294967291
-}
-
-fn hash(words: &[u32; 4240], count: usize) -> u64
-    requires { ⌜ count ≤ 4240 ⌝ }
-{
-    let mut h: u64 = 0;
-    let mut i: usize = 0;
-    while i < count {
-        h = hashed(h, words[i]);
-        i += 1;
-    }
-    h
-}
-
-// 1 where all words from a place on are as before the call, else 0.
-fn kept(words: &[u32; 4240], from: usize, before: u32) -> u64 {
-    let mut i = from;
-    while i < 4240 {
-        if words[i] != before {
-            return 0;
-        }
-        i += 1;
-    }
-    1
-}
-
-// A NaN has no bits to be read; no value is one.
-fn bits_of(value: f32) -> u32 {
-    if value == value {
-        return f32::to_bits(value);
-    }
-    4294967295
-}
-
 fn all_bits(values: &[f32; 4240]) -> [u32; 4240] {
     let mut bits = [0u32; 4240];
     let mut i: usize = 0;
@@ -148,17 +82,6 @@ fn all_bits(values: &[f32; 4240]) -> [u32; 4240] {
         i += 1;
     }
     bits
-}
-
-fn print_number(v: u64) {
-    io::write_all(1, b" ");
-    io::print_decimal(1, v);
-}
-
-// The hash of what was written, and whether the places behind it are as before the call.
-fn print_buffer(words: &[u32; 4240], count: usize, before: u32) {
-    print_number(hash(words, at_most(count, 4240)));
-    print_number(kept(words, count, before));
 }
 
 // What words and values hold before the call: no call word, and no colour.
@@ -198,11 +121,6 @@ fn replay_list(a: Asked, cache: &[u16], flags: &[u8], map: &[u8])
     print_buffer(&words, listed.count, 4000000000);
 }
 
-// A refusal writes no values, and `pred` accepts only a map of as many cells as there are values.
-fn written(number: u32, cells: usize) -> usize {
-    if number == 0 { cells } else { 0 }
-}
-
 fn replay_pred(a: Asked, flags: &[u8], map: &[u8])
     requires { ⌜ a .«value_room» ≤ 4240 ⌝ }
 {
@@ -222,7 +140,8 @@ fn replay_pred(a: Asked, flags: &[u8], map: &[u8])
     );
     let bits = all_bits(&values);
     print_number(number as u64);
-    print_buffer(&bits, written(number, a.cells), bits_of(0.5));
+    // `pred` accepts only a map of as many cells as there are values.
+    print_buffer(&bits, replaying::written(number, a.cells), bits_of(0.5));
 }
 
 fn print_line(place: u64, a: Asked, cache: &[u16], flags: &[u8], map: &[u8])

@@ -1,11 +1,11 @@
 -- The answer: what is known once the tests have passed, and the palette with its cells and flags. Assumes nothing.
 use mathlib.Core.Path.{_≡_, refl, sym, ap, subst, _∙_}
-use mathlib.Core.Bool.{false, cond}
+use mathlib.Core.Bool.{Bool, true, false, cond}
 use mathlib.Core.List.{List, map}
-use Prim.Native.Nat.{ℕ, _*_, min, _≤_}
+use Prim.Native.Nat.{ℕ, _*_, min, _≤_, zero-le}
 use native.Mathlib.Omega.{arith}
 use native.Mathlib.Nat.{mul-le-mul}
-use borrow.Author.Tests.{eq-eqb, ne-eqb}
+use borrow.Author.Tests.{eq-eqb, ne-eqb, eqb-true}
 use lib.Dec.{eqb}
 use lib.ListN.{length, take}
 use lib.Seq.{length-take-le}
@@ -27,6 +27,7 @@ use Rattle.search.specs.Search.{Standing, searched, histogramIn, foundIn
 use Rattle.search.specs.Steps.{Ready, Stands, Written}
 use Rattle.search.proofs.Heads.{levels, top, is-histogram}
 use Rattle.search.proofs.Finds.{Kept, finds, kept-cells, kept-flags}
+use Rattle.search.proofs.Passed.{ready}
 use Rattle.search.proofs.Tries.{lines-are}
 
 pub take-fits : (xs : List ℕ) (k room : ℕ) → k ≤ length xs → k ≤ room → length (take k xs) ≤ room
@@ -157,3 +158,13 @@ module _ (samples costs : List Float) (b : Block) (map₀ flags₀ : List ℕ) w
     pub number-second : (levels : ℕ) → levels ≡ levelsFault (histogramIn samples .n) → fault ≡ 0 → number ≡ levels
     unfolding searchNumber
     number-second levels l z = rw (← f, eq-eqb fault 0 z, ← l) refl
+
+  -- at most eight colours
+  pub few-colors : (map flags : List ℕ) (r : Palette) → Searches samples costs b map₀ map flags₀ flags r → r .n ≤ 8
+  few-colors map flags r a = rw (a .answer) (go (eqb number 0) refl)
+    where
+      go : (t : Bool) → eqb number 0 ≡ t → cond t (paletteBy (foundIn samples costs b .best)) (refusedBy number) .n ≤ 8
+      go true e =
+          let q = ready samples costs b (length map₀) (length flags₀) (eqb-true number 0 e) in
+          finds samples costs b (histogramIn samples) (length map₀) (length flags₀) (q .0) refl (q .1) (q .2) .eight
+      go false e = zero-le

@@ -1,3 +1,4 @@
+pub mod Eight
 pub mod Errors
 pub mod Heads
 pub mod Order

@@ -128,9 +128,14 @@ paletteBy b = record {
   bits = mul binary32 (b .bits) (nat binary32 3);
 }
 
--- the answer of `search`, and both buffers before and after: on 0 cells and flags stand from the front, else nothing is written
+-- the answer for a map of so many cells and so many flags
+abbrev pub answerOf : List Float → List Float → Block → ℕ → ℕ → Palette
+answerOf samples costs b cells lines =
+    let number = searchNumber samples costs b cells lines in
+    cond (eqb number 0) (paletteBy (foundIn samples costs b .best)) (refusedBy number)
+
+-- what `search` answers, and both buffers before and after: on 0 cells and flags stand from the front, else nothing is written
 pub record Searches (samples costs : List Float) (b : Block) (map₀ map flags₀ flags : List ℕ) (r : Palette) : Type 0 where
-  pub answer : let number = searchNumber samples costs b (length map₀) (length flags₀) in
-      r ≡ cond (eqb number 0) (paletteBy (foundIn samples costs b .best)) (refusedBy number)
+  pub answer : r ≡ answerOf samples costs b (length map₀) (length flags₀)
   pub cells : map ≡ cond (eqb (r .number) 0) (front (foundIn samples costs b .map) map₀) map₀
   pub signs : flags ≡ cond (eqb (r .number) 0) (front (foundIn samples costs b .flags) flags₀) flags₀

@@ -7,6 +7,9 @@ ghost use Rattle.context.specs.Context.{contextOf};
 ghost use Rattle.accept.specs.Palette.{paletteOf};
 ghost use Rattle.listing.specs.Listing.{Predicts};
 ghost use Rattle.station.specs.Listed.{ListsTo};
+ghost use Rattle.station.specs.Searched.{fieldsOf, SearchesTo};
+ghost use Prim.Native.Nat.{_≤_};
+ghost use lib.ListN.{length};
 
 #[no_mangle]
 pub extern "C" fn palette_block_allowed(bw4: usize, bh4: usize) -> bool
@@ -51,6 +54,50 @@ pub extern "C" fn palette_context(
     let order = found.order;
     *context = in_words(found.ctx as u32, order);
     found.number
+}
+
+// A palette's n, colours and orientation in one array.
+fn in_fields(n: usize, colors: [u16; 8], transposed: bool) -> [u32; 10]
+    requires { ⌜ n ≤ 8 ⌝ }
+    ensures { λ r. ⌜ r ≡ fieldsOf n colors transposed ⌝ }
+{
+    [
+        n as u32,
+        colors[0] as u32,
+        colors[1] as u32,
+        colors[2] as u32,
+        colors[3] as u32,
+        colors[4] as u32,
+        colors[5] as u32,
+        colors[6] as u32,
+        colors[7] as u32,
+        transposed as u32,
+    ]
+}
+
+#[no_mangle]
+pub extern "C" fn palette_search(
+    samples: &[f32],
+    width: usize,
+    height: usize,
+    bd: u32,
+    lambda: f32,
+    costs: &[f32],
+    map: &mut [u8],
+    flags: &mut [u8],
+    found: &mut [u32; 10],
+    bits: &mut f32,
+) -> u32
+    ensures { λ r. ⌜ SearchesTo (now (samples .entry)) (now (costs .entry))
+        (record { width = width; height = height; bd = bd; lambda = lambda })
+        (now (map .entry)) (now (map .exit)) (now (flags .entry)) (now (flags .exit))
+        (now (found .exit)) (now (bits .exit)) r ⌝ }
+{
+    let answer = palette::search(samples, width, height, bd, lambda, costs, map, flags);
+    let colors = answer.colors;
+    *found = in_fields(answer.n, colors, answer.transposed);
+    *bits = answer.bits;
+    answer.number
 }
 
 #[no_mangle]

@@ -1,27 +1,26 @@
 //! `color_ctx`, with every place of the order.
 
-use crate::station;
-use crate::tally::Tally;
+use crate::drive::{drive, Run};
+use palette_compare::station;
 use palette_oracle::check::context_number;
 use palette_oracle::generate::contexts::asked_corner;
 use palette_oracle::Corner;
 
-pub fn compare(seed: u64, count: u64) -> bool {
-    let mut tally = Tally::default();
-    for index in 0..count {
-        let (corner, kind, damage) = asked_corner(seed, index);
-        let (number, expected) = answer(&corner);
+pub fn compare(run: Run) -> Result<bool, String> {
+    drive(run, |index, tally| {
+        let (corner, kind, damage) = asked_corner(run.seed, index);
+        let (due, expected) = answer(&corner);
         let mut context = [u32::MAX; 9];
-        let same = station::context(&corner, &mut context) == number && context == expected;
-        tally.kind("number", format!("{number:2}"));
+        let number = station::context(&corner, &mut context);
+        tally.kind("number", format!("{due:2}"));
         tally.kind("corner", kind.name());
         if let Some(damage) = damage {
             tally.kind("damage", damage.name());
         }
-        tally.case(index, same);
-    }
-    println!("{tally}");
-    tally.all_same()
+        let same = [("number", number == due), ("context", context == expected)];
+        tally.case(index, &same);
+        Ok(())
+    })
 }
 
 /// A refusal leaves 0 everywhere.

@@ -1,10 +1,12 @@
 //! `list` and `pred`, word by word and bit by bit, with what they must leave alone.
 
-use crate::station;
+use crate::drive::{drive, Run};
 use crate::tally::Tally;
+use palette_compare::clock::Clock;
+use palette_compare::station;
 use palette_oracle::answers::{list_answer, pred_answer, ListAnswer, PredAnswer};
 use palette_oracle::generate::requests::{request, Request, RequestKinds};
-use std::time::{Duration, Instant};
+use std::time::Duration;
 
 /// No call word.
 const WORD: u32 = 0xeeee_eeee;
@@ -15,25 +17,18 @@ const VALUE: f32 = -3.5;
 /// Places behind the room.
 const BEHIND: usize = 16;
 
-#[derive(Default)]
-struct Times {
-    ours: Duration,
-    original: Duration,
-}
-
-pub fn compare(seed: u64, count: u64) -> bool {
-    let (mut tally, mut times) = (Tally::default(), Times::default());
-    for index in 0..count {
-        let (request, kinds) = request(seed, index);
+pub fn compare(run: Run) -> Result<bool, String> {
+    drive(run, |index, tally| {
+        let (request, kinds) = request(run.seed, index);
         let (listed, predicted) = (list_answer(&request), pred_answer(&request));
-        let same_list = same_list(&request, &listed, &mut times);
-        let same = same_list && same_pred(&request, &predicted);
-        count_kinds(&mut tally, &kinds, &listed, &predicted);
-        tally.case(index, same);
-    }
-    println!("{tally}");
-    print_times(&times);
-    tally.all_same()
+        let same = [
+            ("list", same_list(&request, &listed, tally)),
+            ("pred", same_pred(&request, &predicted)),
+        ];
+        count_kinds(tally, &kinds, &listed, &predicted);
+        tally.case(index, &same);
+        Ok(())
+    })
 }
 
 fn count_kinds(tally: &mut Tally, kinds: &RequestKinds, listed: &ListAnswer, pred: &PredAnswer) {
@@ -53,19 +48,19 @@ fn count_kinds(tally: &mut Tally, kinds: &RequestKinds, listed: &ListAnswer, pre
     }
 }
 
-fn same_list(request: &Request, expected: &ListAnswer, times: &mut Times) -> bool {
+fn same_list(request: &Request, expected: &ListAnswer, tally: &mut Tally) -> bool {
     let mut words = vec![WORD; expected.room + BEHIND];
     let mut listed = [WORD; 2];
-    let start = Instant::now();
+    let start = Clock::start();
     let number = station::list(
         &request.palette,
         &request.cache,
         &mut words[..expected.room],
         &mut listed,
     );
-    if number == 0 {
-        times.ours += start.elapsed();
-        times.original += time_original(request);
+    let time = start.elapsed();
+    if number == 0 && expected.number == 0 {
+        tally.time(time, time_original(request));
     }
     let (front, rest) = words.split_at(expected.words.len());
     number == expected.number
@@ -75,7 +70,7 @@ fn same_list(request: &Request, expected: &ListAnswer, times: &mut Times) -> boo
 }
 
 fn time_original(request: &Request) -> Duration {
-    let start = Instant::now();
+    let start = Clock::start();
     let words = palette_oracle::list(&request.palette, &request.cache);
     let elapsed = start.elapsed();
     std::hint::black_box(words);
@@ -90,10 +85,4 @@ fn same_pred(request: &Request, expected: &PredAnswer) -> bool {
     number == expected.number
         && bits(front) == bits(&expected.values)
         && rest.iter().all(|value| value.to_bits() == VALUE.to_bits())
-}
-
-fn print_times(times: &Times) {
-    let (ours, original) = (times.ours.as_secs_f64(), times.original.as_secs_f64());
-    let ratio = ours / original;
-    println!("accepted lists: ours {ours:.1} s, the original's {original:.1} s, ratio {ratio:.2}");
 }

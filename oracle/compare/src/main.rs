@@ -1,17 +1,20 @@
 //! Compares our crates with the original on fresh cases; status 1 on any difference.
 
 mod contexts;
+mod drive;
 mod lists;
-mod share;
-mod station;
+mod searches;
 mod tally;
 mod texts;
 
+use drive::Run;
 use std::process::ExitCode;
 use std::time::Instant;
 
-const USAGE: &str =
-    "usage: compare lists SEED COUNT | contexts SEED COUNT | texts SEED COUNT | share SEED COUNT";
+const USAGE: &str = "usage: compare search|lists|contexts|texts SEED COUNT [THREADS]";
+
+/// A thread for each core of a small machine.
+const THREADS: u64 = 2;
 
 fn main() -> ExitCode {
     let start = Instant::now();
@@ -29,19 +32,23 @@ fn main() -> ExitCode {
 
 fn run() -> Result<bool, String> {
     let arguments: Vec<String> = std::env::args().skip(1).collect();
-    let [command, seed, count] = &arguments[..] else {
-        return Err(USAGE.to_string());
+    let arguments: Vec<&str> = arguments.iter().map(String::as_str).collect();
+    let (command, seed, count, threads) = match arguments[..] {
+        [command, seed, count] => (command, seed, count, THREADS),
+        [command, seed, count, threads] => (command, seed, count, whole("threads", threads)?),
+        _ => return Err(USAGE.to_string()),
     };
-    let (seed, count) = (whole("seed", seed)?, whole("count", count)?);
+    let run = Run {
+        seed: whole("seed", seed)?,
+        count: whole("count", count)?,
+        threads: threads.max(1),
+    };
     println!("{command}, seed {seed}");
-    match command.as_str() {
-        "lists" => Ok(lists::compare(seed, count)),
-        "contexts" => Ok(contexts::compare(seed, count)),
-        "texts" => texts::compare(seed, count),
-        "share" => {
-            share::measure(seed, count);
-            Ok(true)
-        }
+    match command {
+        "search" => searches::compare(run),
+        "lists" => lists::compare(run),
+        "contexts" => contexts::compare(run),
+        "texts" => texts::compare(run),
         _ => Err(USAGE.to_string()),
     }
 }

@@ -1,15 +1,20 @@
-//! Cases counted by kind, and the first differences in words.
+//! Cases counted by kind, the first differences in words, and the times of both sides.
 
 use std::collections::BTreeMap;
 use std::fmt::{self, Display, Formatter};
+use std::time::Duration;
 
-const SHOWN: u64 = 20;
+const SHOWN: usize = 20;
 
 #[derive(Default)]
 pub struct Tally {
     cases: u64,
     differences: u64,
+    /// The first differing cases, each with what differs.
+    shown: Vec<(u64, String)>,
     kinds: BTreeMap<String, u64>,
+    ours: Duration,
+    original: Duration,
 }
 
 impl Tally {
@@ -17,16 +22,36 @@ impl Tally {
         *self.kinds.entry(format!("{group}={name}")).or_default() += 1;
     }
 
-    /// Ends a case; `same` is false where ours and the original's answers differ.
-    pub fn case(&mut self, index: u64, same: bool) {
+    /// Ends a case with the names of what differs, given as pairs of a name and whether ours and
+    /// the original's are the same.
+    pub fn case(&mut self, index: u64, same: &[(&str, bool)]) {
         self.cases += 1;
-        if same {
+        let differing: Vec<&str> = same.iter().filter(|s| !s.1).map(|s| s.0).collect();
+        if differing.is_empty() {
             return;
         }
         self.differences += 1;
-        if self.differences <= SHOWN {
-            println!("case {index} differs");
+        if self.shown.len() < SHOWN {
+            self.shown.push((index, differing.join(", ")));
         }
+    }
+
+    pub fn time(&mut self, ours: Duration, original: Duration) {
+        self.ours += ours;
+        self.original += original;
+    }
+
+    /// Takes in the cases of another.
+    pub fn add(&mut self, other: Tally) {
+        self.cases += other.cases;
+        self.differences += other.differences;
+        self.shown.extend(other.shown);
+        self.shown.sort();
+        self.shown.truncate(SHOWN);
+        for (kind, count) in other.kinds {
+            *self.kinds.entry(kind).or_default() += count;
+        }
+        self.time(other.ours, other.original);
     }
 
     pub fn all_same(&self) -> bool {
@@ -36,9 +61,21 @@ impl Tally {
 
 impl Display for Tally {
     fn fmt(&self, f: &mut Formatter<'_>) -> fmt::Result {
+        for (index, what) in &self.shown {
+            writeln!(f, "case {index} differs: {what}")?;
+        }
         for (kind, count) in &self.kinds {
             writeln!(f, "{kind:<28}{count:>10}")?;
         }
-        write!(f, "cases {}, differences {}", self.cases, self.differences)
+        write!(f, "cases {}, differences {}", self.cases, self.differences)?;
+        if self.original.is_zero() {
+            return Ok(());
+        }
+        let (ours, original) = (self.ours.as_secs_f64(), self.original.as_secs_f64());
+        let ratio = ours / original;
+        write!(
+            f,
+            "\naccepted cases: ours {ours:.2} s, the original's {original:.2} s, ratio {ratio:.2}"
+        )
     }
 }

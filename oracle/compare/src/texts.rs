@@ -1,6 +1,6 @@
 //! The listing program, run anew on each text.
 
-use crate::tally::Tally;
+use crate::drive::{drive, Run};
 use palette_oracle::generate::texts::text;
 use palette_oracle::listing_text::answer;
 use std::io::{self, Read, Write};
@@ -10,19 +10,18 @@ use std::process::{Command, Stdio};
 const VARIABLE: &str = "LIST_PROGRAM";
 const DEFAULT_PROGRAM: &str = "../../target/bin/list";
 
-pub fn compare(seed: u64, count: u64) -> Result<bool, String> {
+pub fn compare(run: Run) -> Result<bool, String> {
     let program = program()?;
-    let mut tally = Tally::default();
-    for index in 0..count {
-        let (text, kind) = text(seed, index);
+    drive(run, |index, tally| {
+        let (text, kind) = text(run.seed, index);
         let expected = answer(&text);
-        let printed = run(&program, &text).map_err(|e| format!("text {index}: {e}"))?;
+        let (printed, ended) =
+            printed(&program, &text).map_err(|e| format!("text {index}: {e}"))?;
         tally.kind("text", kind.name());
         tally.kind("answer", class(&expected));
-        tally.case(index, printed == expected);
-    }
-    println!("{tally}");
-    Ok(tally.all_same())
+        tally.case(index, &[("text", printed == expected), ("end", ended)]);
+        Ok(())
+    })
 }
 
 fn program() -> Result<PathBuf, String> {
@@ -43,8 +42,10 @@ fn class(answer: &[u8]) -> String {
     }
 }
 
-/// A program that has read enough may end before all of a long text is written.
-fn run(program: &PathBuf, text: &[u8]) -> io::Result<Vec<u8>> {
+/// What the program prints, and whether it ended by itself and not by a signal; document 01 says
+/// nothing of its status. A program that has read enough may end before all of a long text is
+/// written.
+fn printed(program: &PathBuf, text: &[u8]) -> io::Result<(Vec<u8>, bool)> {
     let mut child = Command::new(program)
         .stdin(Stdio::piped())
         .stdout(Stdio::piped())
@@ -60,6 +61,6 @@ fn run(program: &PathBuf, text: &[u8]) -> io::Result<Vec<u8>> {
         .take()
         .expect("piped")
         .read_to_end(&mut printed)?;
-    child.wait()?;
-    Ok(printed)
+    let ended = child.wait()?.code().is_some();
+    Ok((printed, ended))
 }

@@ -1,7 +1,8 @@
 //! Answers of the original, for cases read or generated.
 
 use palette_oracle::generate::{blocks, caches, contexts, palettes};
-use palette_oracle::replay::{self, Replayed};
+use palette_oracle::replay::{self, replayed};
+use palette_oracle::replay_blocks::{self, replayed_blocks};
 use palette_oracle::text::{answer, parse, Case};
 use palette_oracle::worked;
 use std::io::{self, BufRead, BufWriter, Write};
@@ -9,7 +10,8 @@ use std::process::ExitCode;
 
 const USAGE: &str =
     "usage: oracle answer | blocks SEED COUNT | lists SEED COUNT | contexts SEED COUNT | worked\n\
-     | replay-input SEED COUNT | replay-output SEED COUNT";
+     | replay-input SEED COUNT | replay-output SEED COUNT\n\
+     | replay-blocks-input SEED COUNT | replay-blocks-output SEED COUNT";
 
 fn main() -> ExitCode {
     let arguments: Vec<String> = std::env::args().skip(1).collect();
@@ -20,10 +22,14 @@ fn main() -> ExitCode {
         ["lists", seed, count] => print_cases(seed, count, list_case),
         ["contexts", seed, count] => print_cases(seed, count, context_case),
         ["worked"] => return print_worked(),
-        ["replay-input", seed, count] => write_replayed(seed, count, |_, r| replay::bytes(r)),
-        ["replay-output", seed, count] => write_replayed(seed, count, |place, r| {
-            format!("{}\n", replay::line(place, r)).into_bytes()
-        }),
+        ["replay-input", seed, count] => write_each(seed, count, replayed, input(replay::bytes)),
+        ["replay-output", seed, count] => write_each(seed, count, replayed, output(replay::line)),
+        ["replay-blocks-input", seed, count] => {
+            write_each(seed, count, replayed_blocks, input(replay_blocks::bytes))
+        }
+        ["replay-blocks-output", seed, count] => {
+            write_each(seed, count, replayed_blocks, output(replay_blocks::line))
+        }
         _ => Err(USAGE.to_string()),
     };
     match result {
@@ -76,16 +82,27 @@ fn whole(name: &str, text: &str) -> Result<u64, String> {
     text.parse().map_err(|e| format!("{name} {text}: {e}"))
 }
 
-/// Writes what the crate `replay` reads, or what it must print.
-fn write_replayed(
+/// What a replaying crate reads for a case; the place plays no part in it.
+fn input<T>(bytes: fn(&T) -> Vec<u8>) -> impl Fn(usize, &T) -> Vec<u8> {
+    move |_, case| bytes(case)
+}
+
+/// What a replaying crate must print for a case.
+fn output<T>(line: fn(usize, &T) -> String) -> impl Fn(usize, &T) -> Vec<u8> {
+    move |place, case| format!("{}\n", line(place, case)).into_bytes()
+}
+
+/// Writes the cases of a replaying crate in one of its two forms.
+fn write_each<T, Cases: Iterator<Item = T>>(
     seed: &str,
     count: &str,
-    form: fn(usize, &Replayed) -> Vec<u8>,
+    cases: impl Fn(u64, usize) -> Cases,
+    form: impl Fn(usize, &T) -> Vec<u8>,
 ) -> Result<(), String> {
     let (seed, count) = (whole("seed", seed)?, whole("count", count)? as usize);
     let mut out = BufWriter::new(io::stdout().lock());
-    for (before, replayed) in replay::replayed(seed, count).enumerate() {
-        let bytes = form(before + 1, &replayed);
+    for (before, case) in cases(seed, count).enumerate() {
+        let bytes = form(before + 1, &case);
         out.write_all(&bytes).map_err(|e| e.to_string())?;
     }
     out.flush().map_err(|e| e.to_string())

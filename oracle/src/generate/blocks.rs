@@ -21,7 +21,7 @@ pub struct BlockKinds {
 }
 
 impl BlockKinds {
-    fn draw(random: &mut Random) -> Self {
+    pub fn draw(random: &mut Random) -> Self {
         BlockKinds {
             count: level_count(random),
             spacing: random.pick(Spacing::ALL),

@@ -1,6 +1,6 @@
 //! Cells to ask the context of, all accepted.
 
-use super::random::Random;
+use super::random::{Beside, Random};
 use crate::check::neighbours;
 use crate::original::Corner;
 
@@ -49,13 +49,10 @@ kinds! {
     }
 }
 
-/// Keeps the corner of a seed and index the same.
-const STREAM: u64 = 1 << 63;
-
 /// A corner, damaged about one time in ten.
 pub fn asked_corner(seed: u64, index: u64) -> (Corner, CornerKind, Option<CornerDamage>) {
     let (mut corner, kind) = corner(seed, index);
-    let random = &mut Random::new(seed ^ STREAM, index);
+    let random = &mut Random::beside(seed, index, Beside::Damage);
     if !random.one_in(10) {
         return (corner, kind, None);
     }

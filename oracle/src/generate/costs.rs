@@ -71,8 +71,9 @@ fn head_below_zero(random: &mut Random) -> Box<Costs> {
     costs
 }
 
-/// As the original prices its own tables, but for its quick logarithm.
-fn logarithms() -> Box<Costs> {
+/// As the original prices its own tables, but for its quick logarithm. The logarithm is taken in
+/// f64 and then rounded: in f32 its last bit was not the same in every build.
+pub fn logarithms() -> Box<Costs> {
     filled(|place| {
         let (icdf, symbol, symbols) = places::ask_at(place);
         if symbol >= symbols {
@@ -84,9 +85,8 @@ fn logarithms() -> Box<Costs> {
         } else {
             0
         };
-        -(f32::from((above - below).max(1)) / 32768.0)
-            .log2()
-            .min(0.0)
+        let share = f64::from((above - below).max(1)) / 32768.0;
+        -share.log2().min(0.0) as f32
     })
 }
 

@@ -20,13 +20,16 @@ macro_rules! kinds {
 
 pub mod blocks;
 pub mod caches;
+pub mod close;
 pub mod contexts;
 pub mod costs;
+mod damages;
 pub mod lambdas;
 pub mod layouts;
 pub mod levels;
 pub mod palettes;
 pub mod random;
 pub mod requests;
+pub mod searches;
 pub mod sides;
 pub mod texts;

@@ -6,12 +6,29 @@ pub struct Random {
     state: u64,
 }
 
+/// What is drawn beside a case, each from a stream of its own: the bit of the seed that is turned
+/// over for it.
+#[derive(Clone, Copy, Debug)]
+pub enum Beside {
+    /// Rooms and damages.
+    Damage = 63,
+    /// Texts of a palette.
+    Text = 62,
+    /// Costs that a group of replayed blocks shares.
+    Group = 61,
+}
+
 impl Random {
     /// Each case has its own stream.
     pub fn new(seed: u64, index: u64) -> Self {
         Random {
             state: mix(seed.wrapping_add(STEP)) ^ mix(index.wrapping_mul(STEP)),
         }
+    }
+
+    /// What is drawn here leaves the case of the seed and index as it is.
+    pub fn beside(seed: u64, index: u64, what: Beside) -> Self {
+        Random::new(seed ^ (1 << what as u32), index)
     }
 
     pub fn bits(&mut self) -> u64 {

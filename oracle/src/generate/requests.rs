@@ -1,8 +1,9 @@
 //! Palettes with caches and rooms as our `list` and `pred` are asked; about one in ten is damaged.
 
 use super::caches::{self, CacheKind, LONGEST};
+use super::damages::{self, put_anywhere, stretch};
 use super::palettes::{self, PaletteKinds};
-use super::random::Random;
+use super::random::{Beside, Random};
 use crate::check::top;
 use crate::original::Palette;
 
@@ -43,20 +44,17 @@ pub struct RequestKinds {
     pub damages: Vec<Damage>,
 }
 
-/// Keeps the palette and the cache of a seed and index the same.
-const STREAM: u64 = 1 << 63;
-
 pub fn request(seed: u64, index: u64) -> (Request, RequestKinds) {
     let (palette, palette_kinds) = palettes::palette(seed, index);
     let (cache, cache_kind) = caches::cache(seed, index, &palette);
-    let random = &mut Random::new(seed ^ STREAM, index);
+    let random = &mut Random::beside(seed, index, Beside::Damage);
     let mut request = Request {
         palette,
         cache,
-        word_spare: spare(random),
-        value_spare: spare(random),
+        word_spare: damages::spare(random) as isize,
+        value_spare: damages::spare(random) as isize,
     };
-    let damages = draw_damages(random);
+    let damages = damages::draw(random, Damage::ALL);
     for &kind in &damages {
         damage(random, kind, &mut request);
     }
@@ -68,26 +66,11 @@ pub fn request(seed: u64, index: u64) -> (Request, RequestKinds) {
     (request, kinds)
 }
 
-/// Exactly enough half of the time.
-fn spare(random: &mut Random) -> isize {
-    random.pick(&[0, 0, 0, 1, 2, 5])
-}
-
-/// A second damage shows which of two numbers comes first.
-fn draw_damages(random: &mut Random) -> Vec<Damage> {
-    let count = match random.below(40) {
-        0..=2 => 1,
-        3 => 2,
-        _ => 0,
-    };
-    (0..count).map(|_| random.pick(Damage::ALL)).collect()
-}
-
 fn damage(random: &mut Random, kind: Damage, request: &mut Request) {
     let palette = &mut request.palette;
     match kind {
-        Damage::Side => damage_side(random, palette),
-        Damage::Depth => palette.bd = random.pick(&[0, 7, 13, 16, 31, 32, 40, u32::MAX]),
+        Damage::Side => damages::damage_side(random, &mut palette.w, &mut palette.h),
+        Damage::Depth => palette.bd = damages::depth(random),
         Damage::ColorCount => damage_color_count(random, palette),
         Damage::ColorOrder => damage_color_order(random, palette),
         Damage::ColorAboveTop => damage_last_color(random, palette),
@@ -108,15 +91,6 @@ fn damage(random: &mut Random, kind: Damage, request: &mut Request) {
         Damage::NoCopy => put_anywhere(random, &mut palette.flags, 2),
         Damage::WordRoom => request.word_spare = lack(random),
         Damage::ValueRoom => request.value_spare = lack(random),
-    }
-}
-
-fn damage_side(random: &mut Random, palette: &mut Palette) {
-    let side = random.pick(&[0, 65, 66, 128, 255, 1 << 32, usize::MAX]);
-    if random.one_in(2) {
-        palette.w = side;
-    } else {
-        palette.h = side;
     }
 }
 
@@ -146,21 +120,6 @@ fn damage_last_color(random: &mut Random, palette: &mut Palette) {
     if let Some(last) = palette.colors.last_mut() {
         let most = random.pick(&[least, 65_535]);
         *last = random.between(least, most) as u16;
-    }
-}
-
-/// One place more or one fewer.
-fn stretch(random: &mut Random, cells: &mut Vec<u8>) {
-    if random.one_in(2) {
-        cells.push(0);
-    } else {
-        cells.pop();
-    }
-}
-
-fn put_anywhere(random: &mut Random, cells: &mut [u8], value: u8) {
-    if !cells.is_empty() {
-        cells[random.below(cells.len())] = value;
     }
 }
 

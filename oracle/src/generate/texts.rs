@@ -2,7 +2,7 @@
 
 use super::caches::cache;
 use super::palettes::palette;
-use super::random::Random;
+use super::random::{Beside, Random};
 use crate::listing_text::{lines_of, text_of};
 
 kinds! {
@@ -38,7 +38,7 @@ const NUMBERS: &[u32] = &[
 const BYTES: &[u8] = b" 0123456789\n\t\r-+.\0";
 
 pub fn text(seed: u64, index: u64) -> (Vec<u8>, TextKind) {
-    let random = &mut Random::new(seed ^ STREAM, index);
+    let random = &mut Random::beside(seed, index, Beside::Text);
     let kind = random.pick(TextKind::ALL);
     let text = match kind {
         TextKind::Empty => random.pick::<&[u8]>(&[b"", b"", b"\n", b" "]).to_vec(),
@@ -47,9 +47,6 @@ pub fn text(seed: u64, index: u64) -> (Vec<u8>, TextKind) {
     };
     (text, kind)
 }
-
-/// Keeps the palette and the cache of a seed and index the same.
-const STREAM: u64 = 1 << 62;
 
 fn sound_lines(seed: u64, index: u64) -> Vec<Vec<u32>> {
     let (palette, _) = palette(seed, index);

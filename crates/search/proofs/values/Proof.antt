@@ -1,29 +1,13 @@
-use mathlib.Core.Path.{_≡_, refl}
-use mathlib.Core.List.{List, [], _∷_, map}
-use Prim.Native.Nat.{ℕ}
-use native.Mathlib.Omega.{arith}
-use lib.ListN.{length, getD}
+use mathlib.Core.Path.{ap}
+use mathlib.Core.List.{map}
 use lib.Ieee.{binary32}
 use mir.Syntax.{w16}
+use borrow.Author.Needs.{needs}
 use borrow.Kind.Array.{good-length, eInt}
 use Rattle.ieee.specs.Numbers.{nat}
-use Rattle.cells.specs.Cell.{eight}
-use borrow.Author.Needs.{needs}
+use Rattle.search.proofs.Eight.{eight-places}
 use Rattle.search.proofs.values.Statement.{statement}
 use Rattle.search.proofs.values.Tie as tie
-
--- the float of each of eight colours
-eight-values : (xs : List ℕ) → length xs ≡ 8 → eight (λ i. nat binary32 (getD xs i 0)) ≡ map (nat binary32) xs
-eight-values [] e = absurd (omega arith)
-eight-values (a ∷ []) e = absurd (omega arith)
-eight-values (a ∷ b ∷ []) e = absurd (omega arith)
-eight-values (a ∷ b ∷ c ∷ []) e = absurd (omega arith)
-eight-values (a ∷ b ∷ c ∷ d ∷ []) e = absurd (omega arith)
-eight-values (a ∷ b ∷ c ∷ d ∷ i ∷ []) e = absurd (omega arith)
-eight-values (a ∷ b ∷ c ∷ d ∷ i ∷ j ∷ []) e = absurd (omega arith)
-eight-values (a ∷ b ∷ c ∷ d ∷ i ∷ j ∷ k ∷ []) e = absurd (omega arith)
-eight-values (a ∷ b ∷ c ∷ d ∷ i ∷ j ∷ k ∷ l ∷ []) e = refl
-eight-values (a ∷ b ∷ c ∷ d ∷ i ∷ j ∷ k ∷ l ∷ m ∷ xs) e = absurd (omega arith)
 
 array-read-t5 : tie.Need-array-read-t5
 array-read-t5 c = search needs
@@ -74,7 +58,9 @@ int-to-float-t34 : tie.Need-int-to-float-t34
 int-to-float-t34 c = search needs
 
 returns : tie.Need-returns
-returns c = let s = c .before .before .before .before .before .before .before .before in eight-values (s .args .t1) (good-length (eInt w16) 8 (s .args .t1) _ (s .good .0))
+returns c =
+    let s = c .before .before .before .before .before .before .before .before in
+    ap (map (nat binary32)) (eight-places (s .args .t1) (good-length (eInt w16) 8 (s .args .t1) _ (s .good .0)))
 
 pub values-spec : {M : Type 1} → statement M
 values-spec =

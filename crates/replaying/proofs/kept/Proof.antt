@@ -1,7 +1,7 @@
 use borrow.Author.Needs.{needs}
 use Prim.Native.Nat.{_-_}
-use Rattle.replay.proofs.kept.Statement.{statement}
-use Rattle.replay.proofs.kept.Tie as tie
+use Rattle.replaying.proofs.kept.Statement.{statement}
+use Rattle.replaying.proofs.kept.Tie as tie
 
 abbrev Inv-loop : tie.InvT-loop
 Inv-loop words from before i₀ i = Unit {0}

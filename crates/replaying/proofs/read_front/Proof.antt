@@ -2,8 +2,8 @@ use lib.Seq.{length-take-le}
 use mathlib.Core.Path.{sym}
 use native.Mathlib.Omega.{arith}
 use borrow.Author.Needs.{needs}
-use Rattle.replay.proofs.read_front.Statement.{statement}
-use Rattle.replay.proofs.read_front.Tie as tie
+use Rattle.replaying.proofs.read_front.Statement.{statement}
+use Rattle.replaying.proofs.read_front.Tie as tie
 
 slice-relend-prefix-read-full : tie.Need-slice-relend-prefix-read-full
 slice-relend-prefix-read-full c = search needs

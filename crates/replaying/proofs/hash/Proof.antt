@@ -1,7 +1,7 @@
 use borrow.Author.Needs.{needs}
 use Prim.Native.Nat.{_≤_, _<_, _-_}
-use Rattle.replay.proofs.hash.Statement.{statement}
-use Rattle.replay.proofs.hash.Tie as tie
+use Rattle.replaying.proofs.hash.Statement.{statement}
+use Rattle.replaying.proofs.hash.Tie as tie
 
 abbrev Inv-loop : tie.InvT-loop
 Inv-loop words count h₀ i₀ h i = (i ≤ count) × (h < 4294967291)

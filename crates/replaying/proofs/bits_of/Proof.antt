@@ -3,8 +3,8 @@ use mathlib.Core.Bool.{true, not}
 use lib.Dec.{T}
 use lib.Ieee.{Float, nan, inf, fin, eq, isNan}
 use borrow.Author.Needs.{needs}
-use Rattle.replay.proofs.bits_of.Statement.{statement}
-use Rattle.replay.proofs.bits_of.Tie as tie
+use Rattle.replaying.proofs.bits_of.Statement.{statement}
+use Rattle.replaying.proofs.bits_of.Tie as tie
 
 -- what equals itself is no NaN
 number-of-same : (x : Float) → eq x x ≡ true → T (not (isNan x))

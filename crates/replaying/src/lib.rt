@@ -1,0 +1,95 @@
+// What the programs that replay the original's answers have in common: numbers from bytes of standard input, and a
+// line's numbers, with the hash and the untouched rest of a buffer of 4,240 places (oracle/README.md).
+// Functions here may have a `requires`.
+ghost use Prim.Native.Nat.{_<_, _≤_};
+ghost use lib.ListN.{length};
+
+pub fn word(b: u8) -> u32 {
+    b as u32
+}
+
+pub fn wide(b: u8) -> usize
+    ensures { λ r. ⌜ r < 256 ⌝ }
+{
+    b as usize
+}
+
+// The number of two bytes, the low one first.
+pub fn pair(low: u8, high: u8) -> u16 {
+    (high as u16) * 256 + low as u16
+}
+
+pub fn at_most(v: usize, most: usize) -> usize
+    ensures { λ r. ⌜ (r ≤ v) × (r ≤ most) ⌝ }
+{
+    if v < most { v } else { most }
+}
+
+// A size from two bytes, cut to what the buffer holds.
+pub fn size(low: u8, high: u8, most: usize) -> usize
+    ensures { λ r. ⌜ r ≤ most ⌝ }
+{
+    at_most(pair(low, high) as usize, most)
+}
+
+pub fn read_front(bytes: &mut [u8], count: usize)
+    requires { ⌜ count ≤ length (now bytes) ⌝ }
+{
+    io::read_full(0, &mut bytes[..count]);
+}
+
+// One step of the hash: times 65,599 and plus the word, below a prime, so that nothing wraps.
+fn hashed(h: u64, word: u32) -> u64
+    requires { ⌜ h < 4294967291 ⌝ }
+    ensures { λ r. ⌜ r < 4294967291 ⌝ }
+{
+    (h * 65599 + word as u64) % 4294967291
+}
+
+fn hash(words: &[u32; 4240], count: usize) -> u64
+    requires { ⌜ count ≤ 4240 ⌝ }
+{
+    let mut h: u64 = 0;
+    let mut i: usize = 0;
+    while i < count {
+        h = hashed(h, words[i]);
+        i += 1;
+    }
+    h
+}
+
+// 1 where all words from a place on are as before the call, else 0.
+fn kept(words: &[u32; 4240], from: usize, before: u32) -> u64 {
+    let mut i = from;
+    while i < 4240 {
+        if words[i] != before {
+            return 0;
+        }
+        i += 1;
+    }
+    1
+}
+
+// A NaN has no bits to be read; no value is one.
+pub fn bits_of(value: f32) -> u32 {
+    if value == value {
+        return f32::to_bits(value);
+    }
+    4294967295
+}
+
+// How many places a call wrote: a refusal writes none.
+pub fn written(number: u32, count: usize) -> usize {
+    if number == 0 { count } else { 0 }
+}
+
+pub fn print_number(v: u64) {
+    io::write_all(1, b" ");
+    io::print_decimal(1, v);
+}
+
+// The hash of what was written, and whether the places behind it are as before the call.
+pub fn print_buffer(words: &[u32; 4240], count: usize, before: u32) {
+    print_number(hash(words, at_most(count, 4240)));
+    print_number(kept(words, count, before));
+}

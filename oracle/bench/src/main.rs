@@ -1,0 +1,115 @@
+//! Times our search and listing beside the original's search on three drawn sheets.
+
+mod batch;
+mod rounds;
+mod sheets;
+mod table;
+
+use batch::{corners, cut, due, search_ours, Answer, Block, Prices};
+use palette_oracle::generate::costs::logarithms;
+use palette_oracle::Costs;
+use rounds::{same_list, time, Timed};
+use sheets::{sheets, Sheet};
+use std::process::ExitCode;
+use table::{print_head, print_line, Outcome};
+
+const USAGE: &str = "usage: bench [--part N] [--passes N]";
+const SIDES: [usize; 3] = [64, 32, 16];
+const LAMBDAS: [f32; 3] = [20.0, 60.0, 200.0];
+const PASSES: usize = 5;
+
+/// Blocks that are timed together: enough for the clock, and few enough that ours and the
+/// original follow each other closely and meet the same disturbances.
+const BATCH: usize = 8;
+
+struct Options {
+    /// Only each so many-th block.
+    part: usize,
+    passes: usize,
+}
+
+fn main() -> ExitCode {
+    let options = match read_options() {
+        Ok(options) => options,
+        Err(message) => {
+            eprintln!("{message}");
+            return ExitCode::FAILURE;
+        }
+    };
+    let differences = run(&options);
+    println!("differences {differences}");
+    if differences == 0 {
+        ExitCode::SUCCESS
+    } else {
+        ExitCode::FAILURE
+    }
+}
+
+fn read_options() -> Result<Options, String> {
+    let (mut part, mut passes) = (1, PASSES);
+    let mut arguments = std::env::args().skip(1);
+    while let Some(name) = arguments.next() {
+        let value = arguments.next().and_then(|text| text.parse().ok());
+        match (name.as_str(), value) {
+            ("--part", Some(value @ 1..)) => part = value,
+            ("--passes", Some(value @ 1..)) => passes = value,
+            _ => return Err(USAGE.to_string()),
+        }
+    }
+    Ok(Options { part, passes })
+}
+
+fn run(options: &Options) -> usize {
+    let costs = logarithms();
+    let (part, passes) = (options.part, options.passes);
+    println!("each {part}. block, the least of {passes} passes");
+    print_head();
+    let mut differences = 0;
+    for sheet in sheets() {
+        for side in SIDES {
+            for lambda in LAMBDAS {
+                let outcome = measure(&sheet, side, lambda, &costs, options);
+                print_line(sheet.name, side, lambda, &outcome);
+                differences += outcome.differences;
+            }
+        }
+    }
+    differences
+}
+
+fn measure(sheet: &Sheet, side: usize, lambda: f32, costs: &Costs, options: &Options) -> Outcome {
+    let mut outcome = Outcome::default();
+    let prices = Prices { lambda, costs };
+    for corners in corners(side, options.part).chunks(BATCH) {
+        let blocks = corners.iter().map(|&at| cut(&sheet.samples, at, side));
+        let mut batch: Vec<Timed> = blocks
+            .filter_map(|block| looked_at(block, &prices, &mut outcome))
+            .collect();
+        outcome
+            .times
+            .add(&time(&mut batch, &prices, options.passes));
+    }
+    outcome
+}
+
+/// Searches and lists a block by both, untimed. A block on which they differ is not timed.
+fn looked_at(block: Block, prices: &Prices, outcome: &mut Outcome) -> Option<Timed> {
+    let mut answer = Answer::room_for(&block);
+    search_ours(&block, prices, &mut answer);
+    let due = due(&block, prices);
+    *outcome.numbers.entry(due.number).or_default() += 1;
+    if !answer.is(&due) {
+        outcome.differences += 1;
+        return None;
+    }
+    let palette = (due.number == 0).then(|| answer.palette(&block));
+    if !palette.as_ref().is_none_or(same_list) {
+        outcome.differences += 1;
+        return None;
+    }
+    Some(Timed {
+        block,
+        answer,
+        palette,
+    })
+}

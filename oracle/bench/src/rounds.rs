@@ -1,0 +1,121 @@
+//! Times a batch: rounds of ours and of the original in turn.
+
+use crate::batch::{search_original, search_ours, Answer, Block, Prices};
+use palette_compare::clock::Clock;
+use palette_compare::station;
+use palette_oracle::Palette;
+use std::time::Duration;
+
+/// More than the longest list.
+const WORDS: usize = 4240;
+
+/// Times of one or more batches. Blocks with a palette and refused ones are timed apart, since
+/// only the former can be listed.
+#[derive(Clone, Copy, Default)]
+pub struct Times {
+    pub ours: Duration,
+    pub original: Duration,
+    pub listing: Duration,
+    pub ours_refused: Duration,
+    pub original_refused: Duration,
+}
+
+impl Times {
+    pub fn add(&mut self, other: &Times) {
+        self.pairs(other, |mine, theirs| mine + theirs);
+    }
+
+    fn least(&mut self, other: &Times) {
+        self.pairs(other, Duration::min);
+    }
+
+    fn pairs(&mut self, other: &Times, join: fn(Duration, Duration) -> Duration) {
+        self.ours = join(self.ours, other.ours);
+        self.original = join(self.original, other.original);
+        self.listing = join(self.listing, other.listing);
+        self.ours_refused = join(self.ours_refused, other.ours_refused);
+        self.original_refused = join(self.original_refused, other.original_refused);
+    }
+}
+
+/// A block with our answer and, if it has one, its palette.
+pub struct Timed {
+    pub block: Block,
+    pub answer: Answer,
+    pub palette: Option<Palette>,
+}
+
+/// The least time of each round over the passes. A round goes once through the blocks of the
+/// batch, so that no call, search or listing, is repeated on a block that is still warm from it.
+/// Ours and the original take turns in going first.
+pub fn time(batch: &mut [Timed], prices: &Prices, passes: usize) -> Times {
+    let mut least: Option<Times> = None;
+    for pass in 0..passes {
+        let times = one_pass(batch, prices, pass % 2 == 0);
+        least.get_or_insert(times).least(&times);
+    }
+    least.unwrap_or_default()
+}
+
+fn one_pass(batch: &mut [Timed], prices: &Prices, ours_first: bool) -> Times {
+    let mut times = Times::default();
+    for found in [true, false] {
+        let (mut ours, mut original) = (Duration::ZERO, Duration::ZERO);
+        for turn in [ours_first, !ours_first] {
+            if turn {
+                ours = round_of_ours(batch, prices, found);
+            } else {
+                original = round_of_original(batch, prices, found);
+            }
+        }
+        if found {
+            (times.ours, times.original) = (ours, original);
+            times.listing = round_of_listing(batch);
+        } else {
+            (times.ours_refused, times.original_refused) = (ours, original);
+        }
+    }
+    times
+}
+
+/// Only blocks with a palette, or only those without.
+fn chosen(batch: &mut [Timed], found: bool) -> impl Iterator<Item = &mut Timed> {
+    batch
+        .iter_mut()
+        .filter(move |timed| timed.palette.is_some() == found)
+}
+
+fn round_of_ours(batch: &mut [Timed], prices: &Prices, found: bool) -> Duration {
+    let start = Clock::start();
+    for timed in chosen(batch, found) {
+        search_ours(&timed.block, prices, &mut timed.answer);
+    }
+    start.elapsed()
+}
+
+/// The original's palettes are freed after the time is taken: ours writes to lent buffers.
+fn round_of_original(batch: &mut [Timed], prices: &Prices, found: bool) -> Duration {
+    let mut answers = Vec::with_capacity(batch.len());
+    let start = Clock::start();
+    for timed in chosen(batch, found) {
+        answers.push(search_original(&timed.block, prices));
+    }
+    start.elapsed()
+}
+
+fn round_of_listing(batch: &[Timed]) -> Duration {
+    let (mut words, mut listed) = (vec![0; WORDS], [0; 2]);
+    let start = Clock::start();
+    for palette in batch.iter().filter_map(|timed| timed.palette.as_ref()) {
+        let number = station::list(palette, &[], &mut words, &mut listed);
+        assert_eq!(number, 0, "a found palette is accepted");
+    }
+    start.elapsed()
+}
+
+/// Whether our list of a palette is the original's.
+pub fn same_list(palette: &Palette) -> bool {
+    let (mut words, mut listed) = (vec![0; WORDS], [0; 2]);
+    let number = station::list(palette, &[], &mut words, &mut listed);
+    number == 0 && words[..listed[0] as usize] == palette_oracle::list(palette, &[])
+}

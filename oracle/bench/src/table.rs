@@ -1,0 +1,67 @@
+//! The printed table: facts of the blocks, then ratios of times.
+
+use crate::rounds::Times;
+use std::collections::BTreeMap;
+use std::time::Duration;
+
+/// What came out of a sheet at one side and lambda.
+#[derive(Default)]
+pub struct Outcome {
+    pub times: Times,
+    /// Blocks by number.
+    pub numbers: BTreeMap<u32, usize>,
+    pub differences: usize,
+}
+
+const HEAD: [&str; 12] = [
+    "sheet",
+    "side",
+    "lambda",
+    "blocks",
+    "found",
+    "8",
+    "9",
+    "10",
+    "search",
+    "refused",
+    "list/ours",
+    "list/orig",
+];
+
+pub fn print_head() {
+    println!("found, 8, 9, 10: blocks with that answer");
+    println!("search, refused: our search / the original's, on blocks with and without a palette");
+    println!("list/ours, list/orig: our listing / our search, / the original's search");
+    print_fields(HEAD.map(str::to_string));
+}
+
+pub fn print_line(name: &str, side: usize, lambda: f32, outcome: &Outcome) {
+    let (times, numbers) = (&outcome.times, &outcome.numbers);
+    let blocks: usize = numbers.values().sum();
+    let with = |number: u32| numbers.get(&number).copied().unwrap_or(0);
+    // Without a block a round's time is the clock's own.
+    let ratio = |blocks: usize, one: Duration, other: Duration| match blocks {
+        0 => "-".to_string(),
+        _ => format!("{:.3}", one.as_secs_f64() / other.as_secs_f64()),
+    };
+    let (found, refused) = (with(0), blocks - with(0));
+    print_fields([
+        name.to_string(),
+        side.to_string(),
+        lambda.to_string(),
+        blocks.to_string(),
+        found.to_string(),
+        with(8).to_string(),
+        with(9).to_string(),
+        with(10).to_string(),
+        ratio(found, times.ours, times.original),
+        ratio(refused, times.ours_refused, times.original_refused),
+        ratio(found, times.listing, times.ours),
+        ratio(found, times.listing, times.original),
+    ]);
+}
+
+fn print_fields(fields: [String; 12]) {
+    let line: String = fields.iter().map(|field| format!("{field:>10}")).collect();
+    println!("{line}");
+}
