@@ -1,25 +1,21 @@
 -- A map that the search kept passes each test of the listing. Assumes nothing.
-use Prim.Native.Nat.{ℕ, zero, suc, _-_, _*_, _^_, _≤_, _<_}
+use Prim.Native.Nat.{ℕ, _*_, _≤_, _<_}
 use mathlib.Core.Bool.{Bool, true, false}
 use mathlib.Core.Path.{_≡_, refl, sym, ap, _∙_, subst}
 use mathlib.Core.List.{List, map}
-use native.Mathlib.Nat.{le-of-eq, mul-le-mul}
+use native.Mathlib.Nat.{le-of-eq}
 use native.Mathlib.Omega.{arith}
-use lib.Dec.{leb}
 use lib.Ieee.{Float, binary32}
 use lib.ListN.{length, replicate, length-replicate}
 use lib.Seq.{take-all}
 use borrow.Author.Tests.{le-leb, eq-eqb}
-use Rattle.lists.specs.Counted.{ascending, allIn}
 use Rattle.ieee.specs.Numbers.{nat}
 use Rattle.samples.specs.Samples.{levelOf}
 use Rattle.groups.specs.declared.Histogram.{Histogram}
 use Rattle.groups.specs.Histogram.{histogramOf, levelsOf, IsHistogram}
 use Rattle.groups.specs.Groups.{centersOf}
-use Rattle.groups.proofs.Block.{Cells, cells-of, level-top, histogram-is}
-use Rattle.groups.proofs.Colors.{colors-take, centers-length, centers-ascend, centers-top}
+use Rattle.groups.proofs.Colors.{colors-take, centers-length}
 use Rattle.context.specs.Map.{linesOf}
-use Rattle.near.specs.Near.{Below}
 use Rattle.map_search.specs.Lines.{scanOf}
 use Rattle.map_search.proofs.Scans.{scan-sound}
 use Rattle.literals.specs.Literals.{levelsOk}
@@ -29,17 +25,13 @@ use Rattle.sizes.specs.declared.Block.{Block}
 use Rattle.sizes.specs.Sizes.{sentFor, headOf}
 use Rattle.search.specs.Search.{Standing}
 use Rattle.search.specs.Steps.{Ready}
-use Rattle.search.proofs.Finds.{Kept}
+use Rattle.search.proofs.Heads.{is-histogram, levels-ok}
+use Rattle.search.proofs.Finds.{Kept, zeros-below}
 use Rattle.found.specs.Valid.{Valid}
 use Rattle.found.proofs.Valid.{found-valid}
 use Rattle.found.proofs.Accepted.{lines-are, accepted}
 
 -- ---- the tests of the listing, each from plain facts
-zeros-below : (k n : ℕ) → 0 < n → Below (replicate k 0) n
-zeros-below zero n p i = p
-zeros-below (suc k) n p zero = p
-zeros-below (suc k) n p (suc i) = zeros-below k n p i
-
 sides-ok : (w h : ℕ) → 1 ≤ w → w ≤ 64 → 1 ≤ h → h ≤ 64 → sidesOk w h ≡ true
 unfolding sidesOk
 sides-ok w h p q r s = rw (le-leb 1 w p, le-leb w 64 q, le-leb 1 h r, le-leb h 64 s) refl
@@ -48,10 +40,9 @@ depth-ok : (bd : ℕ) → 8 ≤ bd → bd ≤ 12 → depthOk bd ≡ true
 unfolding depthOk
 depth-ok bd p q = rw (le-leb 8 bd p, le-leb bd 12 q) refl
 
-colors-ok : (bd : ℕ) (cs : List ℕ) → 2 ≤ length cs → length cs ≤ 8 → ascending cs ≡ true
-    → allIn (λ c. leb c (2 ^ bd - 1)) cs ≡ true → colorsOk bd cs ≡ true
-unfolding colorsOk levelsOk
-colors-ok bd cs p q a t = rw (le-leb 2 (length cs) p, le-leb (length cs) 8 q, a, t) refl
+colors-ok : (bd : ℕ) (cs : List ℕ) → 2 ≤ length cs → length cs ≤ 8 → levelsOk bd cs ≡ true → colorsOk bd cs ≡ true
+unfolding colorsOk
+colors-ok bd cs p q l = rw (le-leb 2 (length cs) p, le-leb (length cs) 8 q, l) refl
 
 orient-ok : (w h : ℕ) (t : Bool) → (t ≡ true → sentFor w h ≡ true) → orientOk w h t ≡ true
 unfolding orientOk
@@ -72,11 +63,6 @@ module _ (samples costs : List Float) (b : Block) (cells lines : ℕ) (passed : 
   abbrev levels : Histogram
   levels = histogramOf (map levelOf samples)
 
-  in-block : Cells (2 ^ b .bd - 1) (map levelOf samples)
-  in-block =
-      let small : b .width * b .height ≤ 4096 = mul-le-mul (passed .wideMost) (passed .highMost) in
-      cells-of (b .bd) samples (passed .deepMost) (omega (arith, small, passed .count)) (passed .sampled)
-
   module _ (most : levels .n ≤ 32) (s : Standing) (k : Kept samples costs b levels s) where
     abbrev w : ℕ
     w = b .width
@@ -94,7 +80,7 @@ module _ (samples costs : List Float) (b : Block) (cells lines : ℕ) (passed : 
     some = omega (arith, k .two)
 
     histogram : IsHistogram (levelsOf (map levelOf samples)) levels
-    histogram = histogram-is (2 ^ b .bd - 1) (map levelOf samples) in-block most
+    histogram = is-histogram samples costs b cells lines passed levels refl most
 
     -- its colours are those of its groups
     colors-are : firstColors (s .best .colors) n ≡ centersOf levels n
@@ -106,10 +92,8 @@ module _ (samples costs : List Float) (b : Block) (cells lines : ℕ) (passed : 
 
     colors-pass : colorsOk (b .bd) (firstColors (s .best .colors) n) ≡ true
     colors-pass =
-        let top = 2 ^ b .bd - 1 in
         colors-ok (b .bd) _ (omega (arith, k .two, colors-count)) (omega (arith, k .eight, colors-count))
-        (rw colors-are (centers-ascend _ levels histogram n some (k .few)))
-        (rw colors-are (centers-top _ levels histogram n some (k .few) top (level-top top _ in-block)))
+        (rw colors-are (levels-ok samples costs b cells lines passed levels refl most n (k .two) (k .eight) (k .few)))
 
     -- its map is that of a walk that ended
     valid : Valid n (scanOf w h t) (s .map) (s .flags)
@@ -122,7 +106,7 @@ module _ (samples costs : List Float) (b : Block) (cells lines : ℕ) (passed : 
         (found-valid samples costs colours n (b .lambda) scan (w * h) sound some (k .eight) head (k .bound)
         (replicate (w * h) 0) (replicate (scan .lines) 0) (k .error) (k .bits)
         (le-of-eq (sym (length-replicate (w * h) 0))) (le-of-eq (sym (length-replicate (scan .lines) 0)))
-        (zeros-below (w * h) n some) (ap (λ e. e .result) (k .whole)))
+        (λ i. zeros-below (w * h) n i some) (ap (λ e. e .result) (k .whole)))
 
     pub kept-accepted : length (s .map) ≡ w * h → length (s .flags) ≡ scanOf w h t .lines
         → (cache : List ℕ) → length cache ≤ 64

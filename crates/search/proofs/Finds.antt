@@ -18,7 +18,7 @@ use Rattle.samples.proofs.Ranges.{lambda-within, costs-within, sample-within-40
 use Rattle.groups.specs.declared.Histogram.{Histogram}
 use Rattle.groups.specs.Histogram.{histogramOf}
 use Rattle.groups.specs.Groups.{centersOf, groupsOf}
-use Rattle.cells.proofs.Laws.{All}
+use Rattle.groups.proofs.Each.{Each}
 use Rattle.map_search.specs.Lines.{scanOf, mapOf, Ended}
 use Rattle.map_search.specs.declared.MapResult.{MapResult}
 use Rattle.map_search.specs.declared.MapResult.the-variants.{Found, Beaten}
@@ -26,11 +26,11 @@ use Rattle.map_search.proofs.Bound.{always-found}
 use Rattle.map_search.proofs.Scans.{scan-sound}
 use Rattle.sizes.specs.declared.Block.{Block}
 use Rattle.sizes.specs.Sizes.{sentFor, headOf, sizeOf}
+use Rattle.sizes.proofs.Order.{SizeTo, order-each, order-first}
 use Rattle.search.specs.Search.{Standing, none, judged, tried, triedBoth, visited, searched}
 use Rattle.search.specs.Steps.{Ready}
 use Rattle.search.proofs.Heads.{head-under, lb-under, color-within}
 use Rattle.search.proofs.Lengths.{rest-long}
-use Rattle.search.proofs.Order.{Has, in-order}
 
 -- a found map of a size that the block has
 pub record Kept (samples costs : List Float) (b : Block) (h : Histogram) (s : Standing) : Type 0 where
@@ -75,7 +75,7 @@ module _ (samples costs : List Float) (b : Block) (h : Histogram) where
         (headOf costs b (centersOf h k)) bound (replicate (b .width * b .height) 0)
         (replicate (scanOf (b .width) (b .height) t .lines) 0)
 
-    module _ (has : Has (h .n) k) (sent : t ≡ true → sentFor (b .width) (b .height) ≡ true) where
+    module _ (has : SizeTo (h .n) k) (sent : t ≡ true → sentFor (b .width) (b .height) ≡ true) where
       found-kept : (total all error bits : Float) → built .result ≡ Found error bits → Kept samples costs b h (record {
         best = record { total = total; n = k; colors = groupsOf h k .colors; transposed = t; bits = all };
         map = built .map;
@@ -109,7 +109,7 @@ module _ (samples costs : List Float) (b : Block) (h : Histogram) where
       judged-first error bits A u e r i = rw (i, under-lt _ A u) (found-kept _ _ error bits e)
 
   -- ---- what stands stays found
-  tried-kept : (k : ℕ) → Has (h .n) k → (t : Bool) → (t ≡ true → sentFor (b .width) (b .height) ≡ true)
+  tried-kept : (k : ℕ) → SizeTo (h .n) k → (t : Bool) → (t ≡ true → sentFor (b .width) (b .height) ≡ true)
       → (s : Standing) → Kept samples costs b h s
       → Kept samples costs b h (tried samples costs b (sizeOf costs b h k) t s)
   unfolding tried
@@ -117,7 +117,7 @@ module _ (samples costs : List Float) (b : Block) (h : Histogram) where
       judged-kept k t (s .best .total) has sent s p (built k t (s .best .total) .result) refl
 
   -- the transposed map after the plain one
-  both-kept : (k : ℕ) → Has (h .n) k → (s : Standing)
+  both-kept : (k : ℕ) → SizeTo (h .n) k → (s : Standing)
       → Kept samples costs b h (tried samples costs b (sizeOf costs b h k) false s)
       → Kept samples costs b h (triedBoth samples costs b (sizeOf costs b h k) s)
   unfolding triedBoth
@@ -128,7 +128,7 @@ module _ (samples costs : List Float) (b : Block) (h : Histogram) where
       go plain q true e = tried-kept k has true (λ f. e) plain q
       go plain q false e = q
 
-  visited-kept : (ks : List ℕ) → All (Has (h .n)) ks → (s : Standing) → Kept samples costs b h s
+  visited-kept : (ks : List ℕ) → Each (SizeTo (h .n)) ks → (s : Standing) → Kept samples costs b h s
       → Kept samples costs b h (visited samples costs b h ks s)
   unfolding visited
   visited-kept [] a s p = p
@@ -140,7 +140,7 @@ module _ (samples costs : List Float) (b : Block) (h : Histogram) where
   -- ---- the first size
   module _ (rooms lines : ℕ) (r : Ready samples costs b rooms lines) (e : h ≡ histogramOf (map levelOf samples))
       (levels : 2 ≤ h .n) (few : h .n ≤ 32) where
-    first-kept : (k : ℕ) → Has (h .n) k
+    first-kept : (k : ℕ) → SizeTo (h .n) k
         → Kept samples costs b h (tried samples costs b (sizeOf costs b h k) false none)
     unfolding tried
     first-kept k has =
@@ -165,12 +165,14 @@ module _ (samples costs : List Float) (b : Block) (h : Histogram) where
     pub finds : Kept samples costs b h (searched samples costs b h)
     unfolding searched visited
     finds =
-        let o = in-order (λ k. sizeOf costs b h k .lb) (h .n) levels in
-        let k = o .first in
-        let has = o .has in
+        let bound : ℕ → Float = λ k. sizeOf costs b h k .lb in
+        let o = order-first (h .n) bound 6 levels in
+        let k = o .0 in
+        let all : SizeTo (h .n) k × Each (SizeTo (h .n)) (o .1) = rw (o .2) at (order-each (h .n) bound 7) in
+        let has = all .0 in
         let lb = lb-under samples costs b rooms lines r h e few k (has .0) (has .1) (has .2) in
-        rw (o .is, under-bound (sizeOf costs b h k .lb) _ lb)
-        (visited-kept (o .rest) (o .have) (triedBoth samples costs b (sizeOf costs b h k) none)
+        rw (o .2, under-bound (bound k) _ lb)
+        (visited-kept (o .1) (all .1) (triedBoth samples costs b (sizeOf costs b h k) none)
         (both-kept k has none (first-kept k has)))
 
 -- ---- the map and the flags that stand are whole

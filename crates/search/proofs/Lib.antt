@@ -1,7 +1,6 @@
 pub mod Eight
 pub mod Errors
 pub mod Heads
-pub mod Order
 pub mod Lengths
 pub mod Finds
 pub mod Passed
