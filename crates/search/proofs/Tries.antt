@@ -72,6 +72,10 @@ pub lines-are : (w h : ℕ) (t : Bool) → scanOf w h t .lines ≡ linesOf t w h
 lines-are w h true = refl
 lines-are w h false = refl
 
+-- as many lines as either orientation has
+pub lines-most : (t : Bool) (w h room : ℕ) {count : ℕ} → count ≡ linesOf t w h → w ≤ room → h ≤ room → count ≤ room
+lines-most t w h room e p q = rw e (either-way (λ n. n ≤ room) t w h p q)
+
 module _ (samples costs : List Float) (b : Block) (room lineRoom : ℕ) (r : Ready samples costs b room lineRoom) where
   cost-plus : (i : ℕ) → NotNeg (getD costs i nan)
   cost-plus i = go (ltb i 301) refl

@@ -1,9 +1,10 @@
 -- Document 01, 'Worked blocks' and 'Listing program': those with a star, as one claim on the definitions. Assumes nothing.
-use Prim.Native.Nat.{ℕ, zero, suc, _+_}
-use mathlib.Core.Path.{_≡_, refl}
-use mathlib.Core.Bool.{false}
+use Prim.Native.Nat.{ℕ, zero, suc, _+_, _/_, _%_}
+use mathlib.Core.Path.{_≡_, refl, ap, _∙_}
+use mathlib.Core.Bool.{false, cond}
+use lib.Dec.{eqb}
 use mathlib.Core.List.{List, [], _∷_, _++_, map}
-use Rattle.lists.specs.Counted.{upTo, elem, allBelow, allIn, above, ascending}
+use Rattle.lists.specs.Counted.{bit, upTo, elem, allBelow, allIn, above, ascending}
 use Rattle.counts.specs.Counts.{leastBits, ceilLog2, uniformBits}
 use Rattle.context.specs.Map.{cell, lineCell}
 use Rattle.context.specs.Order.{choose, byThree, around, others, orderOf, place, rankOf}
@@ -13,6 +14,22 @@ use Rattle.emit.specs.Colors.{remove, cacheWords, untaken, colorWords}
 use Rattle.emit.specs.Map.{rankedWord, cellWord, rowContext, sentCells, lineWords, orientWords, mapWords}
 use Rattle.accept.specs.Palette.{Palette}
 use Rattle.listing.specs.Listing.{callList}
+use lib.Count.{trailingZeros}
+use lib.ListN.{replicate}
+use lib.Ieee.{Float, binary32, ofBits, ofFields, odd, round, units, size, span, climb, add, sub, neg, sum, mul, div, lt, le, eq, ofInt}
+use lib.Ieee.Positive.{num, den}
+use Rattle.lists.specs.Written.{written}
+use Rattle.ieee.specs.Numbers.{nat}
+use Rattle.samples.specs.Samples.{allInRange}
+use Rattle.groups.specs.declared.Histogram.{Histogram}
+use Rattle.groups.specs.Histogram.{occurs, histogramOf, sumTo}
+use Rattle.groups.specs.Groups.{sumsFrom, firstOf, costIn, chosen as cuts, colorsOf}
+use Rattle.cells.specs.Cell.{cheapest, firstCheapest, squaresOf, ratesOf, ranked, chosen}
+use Rattle.map_search.specs.Lines.{fill, distLine, cellAt, cellsOf, constants, candidates, lineOf, putLine, restOf}
+use Rattle.sizes.specs.declared.Block.{Block}
+use Rattle.sizes.specs.Sizes.{headOf, leastOf}
+use Rattle.sizes.specs.Order.{those, ordered}
+use Rattle.search.specs.Search.{tried, triedBoth, visited, searched, faultOf, levelsFault, searchNumber, refusedBy, paletteBy, answerOf, histogramIn, foundIn}
 use Prim.Native.String.{String, len, charAt}
 use Prim.Native.Char.{code}
 use Rattle.accept.specs.Accepted.{sidesOk, depthOk, colorsOk, orientOk, cacheOk, countsOk, lineOk, mapOk, refusal}
@@ -21,6 +38,24 @@ use Rattle.printing.specs.Printing.{digits, field, line, callLine, callLines, l
 use Rattle.text.specs.Text.{headerAt, headerFault, placesOf, isBody, textNumber, cacheAt, paletteAt}
 use Rattle.text.specs.Answer.{shown, answer}
 use Rattle.text.specs.Worked.{bytes, lines}
+
+-- 16 by 1, eight 10s then eight 20s, bd 8, lambda 0, all costs 0
+abbrev edge : List Float
+edge = replicate 8 (nat binary32 10) ++ replicate 8 (nat binary32 20)
+
+abbrev edgeBlock : Block
+edgeBlock = record { width = 16; height = 1; bd = 8; lambda = nat binary32 0 }
+
+-- what search answers for it: number, n, colours, orientation, the estimate's whole part and what is left of it; the flags and the map
+pub found : List ℕ
+found =
+    let p = answerOf edge (replicate 301 (nat binary32 0)) edgeBlock 16 16 in
+    let s = foundIn edge (replicate 301 (nat binary32 0)) edgeBlock in
+    p .number ∷ p .n ∷ (p .colors ++ (bit (p .transposed) ∷ num (p .bits) / den (p .bits) ∷ num (p .bits) % den (p .bits) ∷ (s .flags ++ s .map)))
+
+-- colours 10 and 20, plain, estimate 51, flag 0
+abbrev edgeAnswer : List ℕ
+edgeAnswer = 0 ∷ 2 ∷ 10 ∷ 20 ∷ (replicate 6 0 ++ (0 ∷ 51 ∷ 0 ∷ (0 ∷ (replicate 8 0 ++ replicate 8 1))))
 
 -- the listing program's example, 4 by 2
 pub block : Palette
@@ -38,6 +73,7 @@ starred =
     ∷ (colorWords 8 (20 ∷ 20 ∷ []) (10 ∷ 20 ∷ []), word 3 0 0 ∷ bypass 1 1 ∷ bypass 1 0 ∷ bypass 8 10 ∷ [])
     ∷ (map (λ v. uniformBits v 5) (0 ∷ 1 ∷ 2 ∷ 3 ∷ 4 ∷ []), 2 ∷ 2 ∷ 2 ∷ 3 ∷ 3 ∷ [])
     ∷ (map (λ v. uniformBits v 3) (0 ∷ 1 ∷ 2 ∷ []), 1 ∷ 2 ∷ 2 ∷ [])
+    ∷ (found, edgeAnswer)
     ∷ (
       callList 4 2 8 [] block,
       word 3 0 0 ∷ bypass 8 16 ∷ bypass 2 3 ∷ bypass 8 218 ∷ bypass 1 0 ∷ word 4 3 1 ∷ word 2 2 0 ∷ word 4 1 0
@@ -71,6 +107,36 @@ starred =
     )
     ∷ []
 
+-- the levels of the 16 by 1 block
+levels : histogramIn edge
+    ≡ record {
+      n = 2;
+      w = 8 ∷ 8 ∷ replicate 30 0;
+      s = 80 ∷ 160 ∷ replicate 30 0;
+      q = 800 ∷ 3200 ∷ replicate 30 0;
+    }
+unfolding trailingZeros ofBits ofFields odd round units size span climb ofInt occurs histogramOf upTo written
+levels = refl
+
+-- the same answer, told from the levels
+abbrev told : Histogram → List ℕ
+told h =
+    let costs = replicate 301 (nat binary32 0) in
+    let fault = faultOf edge costs edgeBlock 16 16 in
+    let number = cond (eqb fault 0) (levelsFault (h .n)) fault in
+    let s = searched edge costs edgeBlock h in
+    let p = cond (eqb number 0) (paletteBy (s .best)) (refusedBy number) in
+    p .number ∷ p .n ∷ (p .colors ++ (bit (p .transposed) ∷ num (p .bits) / den (p .bits) ∷ num (p .bits) % den (p .bits) ∷ (s .flags ++ s .map)))
+
+computed : told (record { n = 2; w = 8 ∷ 8 ∷ replicate 30 0; s = 80 ∷ 160 ∷ replicate 30 0; q = 800 ∷ 3200 ∷ replicate 30 0 })
+    ≡ edgeAnswer
+unfolding trailingZeros ofBits ofFields odd round units size span climb add sub neg sum mul div lt le eq ofInt written allInRange sumTo sumsFrom firstOf costIn cuts colorsOf cheapest firstCheapest squaresOf ratesOf ranked chosen fill distLine cellAt cellsOf constants candidates lineOf putLine restOf headOf leastOf those ordered tried triedBoth visited searched faultOf uniformBits leastBits ceilLog2 literalBits stepsWidth stepBits cutBits largestStep cell around byThree choose rankOf orderOf place others elem sidesOk depthOk
+computed = refl
+
+edge-found : found ≡ edgeAnswer
+unfolding found searchNumber
+edge-found = ap told levels ∙ computed
+
 pub starred-hold : map (λ r. r .0) starred ≡ map (λ r. r .1) starred
 unfolding starred block word rawBits rawWidth uniformBits leastBits ceilLog2 callList colorWords cacheWords untaken remove literalWords moreWords stepWords stepBits cutBits largestStep literalBits stepsWidth mapWords orientWords upTo lineWords rowContext sentCells rankedWord cellWord cell around byThree choose rankOf orderOf place others elem lines bytes answer shown textNumber headerAt headerFault placesOf isBody cacheAt paletteAt isDigit column columns fieldAt isLine lineNumbers areRows rowNumbers digits field line callLine callLines listed refused sidesOk depthOk colorsOk orientOk cacheOk countsOk lineOk mapOk refusal levelsOk allIn allBelow above ascending lineCell
-starred-hold = refl
+starred-hold = rw edge-found refl

@@ -1,10 +1,13 @@
 use mathlib.Core.Path.{refl}
+use Prim.Native.Nat.{_<_}
 use borrow.Author.Tests.{le-leb, lt-leb}
 use Rattle.search.proofs.levels_fault.Statement.{statement}
 use Rattle.search.proofs.levels_fault.Tie as tie
 
 returns : tie.Need-returns
-returns c = rw (lt-leb _ _ (c .if1 .taken)) refl
+returns c =
+    let one : c .before .args .levels < 2 = c .if1 .taken in
+    rw (lt-leb 2 _ one) refl
 
 returns-2 : tie.Need-returns-2
 returns-2 c = rw (le-leb _ _ (c .before .if1 .left), lt-leb _ _ (c .if2 .taken)) refl

@@ -4,8 +4,8 @@ use native.Mathlib.Nat.{lt-of-le-of-lt, mul-le-mul, min-le-left}
 use denote.Ref.{now}
 use lib.Dec.{lit<}
 use lib.ListN.{length}
-use Rattle.lists.proofs.Choice.{either-way}
 use Rattle.search.proofs.Heads.{levels, is-histogram}
+use Rattle.search.proofs.Tries.{lines-most}
 use Rattle.search.proofs.Answer.{take-fits, ready-aside, known, written-found, as-palette}
 use borrow.Author.Needs.{needs}
 use Rattle.search.proofs.search_in.Statement.{statement}
@@ -35,10 +35,9 @@ lines-fit c =
     let t = c .before .before .before .before .before .before .before .before .before .before .before .before in
     let r = start t .pre .0 .0 in
     let b = start t .args .b in
-    let transposed = t .best-of .result .transposed in (
-      rw (all-lines t, c .lines-of .ensures) (either-way (λ n. n ≤ 64) transposed (b .width) (b .height) (r .wideMost) (r .highMost)),
-      rw (c .lines-of .ensures)
-          (either-way (λ n. n ≤ length (now (start t .args .flags))) transposed (b .width) (b .height) (r .columns) (r .rows)),
+    let turned = t .best-of .result .transposed in (
+      rw (all-lines t) (lines-most turned (b .width) (b .height) 64 (c .lines-of .ensures) (r .wideMost) (r .highMost)),
+      lines-most turned (b .width) (b .height) (length (now (start t .args .flags))) (c .lines-of .ensures) (r .columns) (r .rows),
     )
 
 last-size-requires : tie.Need-last-size-requires

@@ -3,8 +3,7 @@ use lib.Seq.{length-take-le}
 use Prim.Native.Nat.{ℕ, _*_, _≤_}
 use native.Mathlib.Nat.{mul-le-mul}
 use lib.ListN.{replicate}
-use Rattle.lists.proofs.Choice.{either-way}
-use Rattle.search.proofs.Tries.{take-zeros}
+use Rattle.search.proofs.Tries.{take-zeros, lines-most}
 use borrow.Author.Needs.{needs}
 use Rattle.search.proofs.try_scan.Statement.{statement}
 use Rattle.search.proofs.try_scan.Tie as tie
@@ -16,8 +15,8 @@ few-cells s = mul-le-mul (s .pre .0 .wideMost) (s .pre .0 .highMost)
 few-lines : (c : tie.After-lines-of) → c .lines-of .result ≤ 64
 few-lines c =
     let s = c .before .before .before .before .before in
-    rw (c .lines-of .ensures) (either-way (λ n. n ≤ 64) (s .args .transposed) (s .args .b .width) (s .args .b .height)
-    (s .pre .0 .wideMost) (s .pre .0 .highMost))
+    let b = s .args .b in
+    lines-most (s .args .transposed) (b .width) (b .height) 64 (c .lines-of .ensures) (s .pre .0 .wideMost) (s .pre .0 .highMost)
 
 lines-of-requires : tie.Need-lines-of-requires
 lines-of-requires c κs = search needs
