@@ -13,7 +13,7 @@ pub struct Outcome {
     pub differences: usize,
 }
 
-const HEAD: [&str; 12] = [
+const HEAD: [&str; 13] = [
     "sheet",
     "side",
     "lambda",
@@ -23,14 +23,15 @@ const HEAD: [&str; 12] = [
     "9",
     "10",
     "search",
-    "refused",
+    "s/found",
+    "s/refused",
     "list/ours",
     "list/orig",
 ];
 
 pub fn print_head() {
     println!("found, 8, 9, 10: blocks with that answer");
-    println!("search, refused: our search / the original's, on blocks with and without a palette");
+    println!("search: our search / the original's, on the whole sheet, on blocks with a palette and on those without");
     println!("list/ours, list/orig: our listing / our search, / the original's search");
     print_fields(HEAD.map(str::to_string));
 }
@@ -54,6 +55,11 @@ pub fn print_line(name: &str, side: usize, lambda: f32, outcome: &Outcome) {
         with(8).to_string(),
         with(9).to_string(),
         with(10).to_string(),
+        ratio(
+            blocks,
+            times.ours + times.ours_refused,
+            times.original + times.original_refused,
+        ),
         ratio(found, times.ours, times.original),
         ratio(refused, times.ours_refused, times.original_refused),
         ratio(found, times.listing, times.ours),
@@ -61,7 +67,7 @@ pub fn print_line(name: &str, side: usize, lambda: f32, outcome: &Outcome) {
     ]);
 }
 
-fn print_fields(fields: [String; 12]) {
+fn print_fields(fields: [String; 13]) {
     let line: String = fields.iter().map(|field| format!("{field:>10}")).collect();
     println!("{line}");
 }
