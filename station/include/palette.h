@@ -1,0 +1,121 @@
+/*
+ * Palette blocks for stations: the functions of libstation.a.
+ *
+ * The archive is written by `rt staticlib station` at the repository's top, to target/staticlib.
+ * Link it with the C library only:  cc station.c -Iinclude target/staticlib/libstation.a
+ *
+ * Every function is proved to meet its contract for all values of its arguments, as long as
+ *  - a pointer is not NULL, not even where the length beside it is 0,
+ *  - it points to as many elements as the length says, or as its array type says,
+ *  - what is written to does not overlap with any other argument.
+ *
+ * A function that returns uint32_t returns document 01's number: 0 if accepted, else the first
+ * of its tests that fails. After a refusal every lent buffer (map, flags, words, values) is as it
+ * was, and every other result (context, found, bits, listed) is 0 throughout.
+ *
+ * All functions may be called from several threads at once: they share nothing.
+ */
+#ifndef PALETTE_H
+#define PALETTE_H
+
+#include <stdbool.h>
+#include <stddef.h>
+#include <stdint.h>
+
+#ifdef __cplusplus
+extern "C" {
+#endif
+
+/* Document 01's limits, for buffers that are made once. */
+#define PALETTE_MAX_SIDE 64
+#define PALETTE_MAX_CELLS 4096
+#define PALETTE_MAX_LINES 64
+#define PALETTE_MAX_COLORS 8
+#define PALETTE_MAX_CACHE 64
+#define PALETTE_MAX_WORDS 4234
+#define PALETTE_COSTS 301
+
+/* Document 01's numbers. 17 is given by the listing program only. */
+#define PALETTE_ACCEPTED 0
+#define PALETTE_SIDE 1          /* a side outside 1..64 */
+#define PALETTE_DEPTH 2         /* bd outside 8..12 */
+#define PALETTE_SAMPLE_COUNT 3  /* sample count not width x height */
+#define PALETTE_LAMBDA 4        /* lambda not within 0..2^20, or NaN */
+#define PALETTE_COST_TABLE 5    /* cost table not 301 long, or an entry not within 0..32 */
+#define PALETTE_SAMPLE 6        /* a sample not within 0..2^bd - 1, or NaN */
+#define PALETTE_ROOM 7          /* room for map, values or flags too small */
+#define PALETTE_SMALL 8         /* both sides below 16: no palette */
+#define PALETTE_ONE_LEVEL 9     /* one level only: no palette */
+#define PALETTE_MANY_LEVELS 10  /* more than 32 levels: no palette */
+#define PALETTE_BAD_COLORS 11   /* colours not 2..8, not strictly ascending, or above 2^bd - 1 */
+#define PALETTE_ORIENTATION 12  /* transposed with a side of 64 */
+#define PALETTE_LONG_CACHE 13   /* cache longer than 64 */
+#define PALETTE_LENGTHS 14      /* map not width x height, or flags not one per line */
+#define PALETTE_BAD_MAP 15      /* index not below n, or a flag that its line does not allow */
+#define PALETTE_WORD_ROOM 16    /* word room too small for the list */
+#define PALETTE_TEXT 17         /* listing program: text not in its form */
+#define PALETTE_NO_CONTEXT 18   /* no context at that cell */
+
+/*
+ * Whether a block of these sides, in units of four samples, may have a palette: each at most 16,
+ * their product at least 4. Writes nothing.
+ */
+bool palette_block_allowed(size_t bw4, size_t bh4);
+
+/*
+ * The context of the cell in row y and column x of a map whose rows are `stride` apart, with n
+ * colours. `map` holds `cells` indices; only the neighbours left, above and between are read.
+ *
+ * Returns 0 or 18. Writes `context`: the context (0 to 4), then the indices by rank, n of them,
+ * then zeros.
+ */
+uint32_t palette_context(const uint8_t *map, size_t cells, size_t stride, size_t y, size_t x,
+                         size_t n, uint32_t context[9]);
+
+/*
+ * Finds the palette of a block of width x height samples, row by row, of bd bits each. `lambda`
+ * is what a bit weighs beside squared error. `costs` holds 301 costs in bits: mode 2 (none,
+ * palette), size 7 (n from 2), row 4 x 3 (line context, flag), colour 7 x 5 x 8 (n from 2,
+ * context, rank). The map needs room for width x height indices, the flags for the longer side.
+ *
+ * Returns 0 or 1 to 10, tested in this order; 8, 9 and 10 mean only that there is no palette.
+ * Writes from the front, and nothing behind: `map`, an index for each cell, row by row; `flags`,
+ * one for each line, that is height of them, or width if transposed. Writes `found`: n, eight
+ * colours with zeros past n, and 1 if transposed, else 0; `bits`: the estimate.
+ */
+uint32_t palette_search(const float *samples, size_t count, size_t width, size_t height,
+                        uint32_t bd, float lambda, const float *costs, size_t entries,
+                        uint8_t *map, size_t map_room, uint8_t *flags, size_t flag_room,
+                        uint32_t found[10], float *bits);
+
+/*
+ * Lists the calls of a palette: the first n of eight colours, an index for each cell (`cells` is
+ * width x height), a flag for each line (`lines` is height, or width if transposed), and a cache
+ * of up to 64 entries of any value. What the search wrote can be handed on as it is.
+ *
+ * Returns 0, or 1, 2, 11 to 16, tested in this order. Writes `words` from the front, and nothing
+ * behind: a word is kind x 2^24 + first x 2^16 + second, with kind 1 bypass (width, value),
+ * 2 uniform (n, value), 3 size (0, n-2), 4 row (context, flag), 5 colour ((n-2) x 5 + context,
+ * rank). Writes `listed`: the number of words and the raw width. PALETTE_MAX_WORDS is always
+ * room enough.
+ */
+uint32_t palette_list(size_t width, size_t height, uint32_t bd, const uint16_t colors[8], size_t n,
+                      bool transposed, const uint8_t *map, size_t cells, const uint8_t *flags,
+                      size_t lines, const uint16_t *cache, size_t cached, uint32_t *words,
+                      size_t room, uint32_t listed[2]);
+
+/*
+ * The prediction of a palette, which is given as to palette_list.
+ *
+ * Returns 0, or 1, 2, 11, 12, 14, 15, 7, tested in this order. Writes `values` from the front,
+ * and nothing behind: the colour of each cell, row by row, width x height of them.
+ */
+uint32_t palette_pred(size_t width, size_t height, uint32_t bd, const uint16_t colors[8], size_t n,
+                      bool transposed, const uint8_t *map, size_t cells, const uint8_t *flags,
+                      size_t lines, float *values, size_t room);
+
+#ifdef __cplusplus
+}
+#endif
+
+#endif

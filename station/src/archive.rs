@@ -1,0 +1,197 @@
+//! The archive's functions. All unsafe code of the package is here.
+//!
+//! Each function of the archive is proved to end, to read only what is lent, and to write only
+//! what its contract names. So each call below is sound as soon as every pointer and length comes
+//! from one live slice, and the lent mutable ones do not overlap; Rust's references see to both.
+
+/// A palette as the archive takes it.
+#[derive(Clone, Copy)]
+pub(crate) struct Lent<'a> {
+    pub(crate) width: usize,
+    pub(crate) height: usize,
+    pub(crate) bd: u32,
+    pub(crate) colors: &'a [u16; 8],
+    pub(crate) n: usize,
+    pub(crate) transposed: bool,
+    pub(crate) map: &'a [u8],
+    pub(crate) flags: &'a [u8],
+}
+
+/// A block and its prices as the archive takes them.
+#[derive(Clone, Copy)]
+pub(crate) struct Asked<'a> {
+    pub(crate) samples: &'a [f32],
+    pub(crate) width: usize,
+    pub(crate) height: usize,
+    pub(crate) bd: u32,
+    pub(crate) lambda: f32,
+    pub(crate) costs: &'a [f32],
+}
+
+// As in include/palette.h, which a test holds to the archive's symbols.
+extern "C" {
+    fn palette_block_allowed(bw4: usize, bh4: usize) -> bool;
+
+    fn palette_context(
+        map: *const u8,
+        cells: usize,
+        stride: usize,
+        y: usize,
+        x: usize,
+        n: usize,
+        context: *mut [u32; 9],
+    ) -> u32;
+
+    fn palette_search(
+        samples: *const f32,
+        count: usize,
+        width: usize,
+        height: usize,
+        bd: u32,
+        lambda: f32,
+        costs: *const f32,
+        entries: usize,
+        map: *mut u8,
+        map_room: usize,
+        flags: *mut u8,
+        flag_room: usize,
+        found: *mut [u32; 10],
+        bits: *mut f32,
+    ) -> u32;
+
+    fn palette_list(
+        width: usize,
+        height: usize,
+        bd: u32,
+        colors: *const [u16; 8],
+        n: usize,
+        transposed: bool,
+        map: *const u8,
+        cells: usize,
+        flags: *const u8,
+        lines: usize,
+        cache: *const u16,
+        cached: usize,
+        words: *mut u32,
+        room: usize,
+        listed: *mut [u32; 2],
+    ) -> u32;
+
+    fn palette_pred(
+        width: usize,
+        height: usize,
+        bd: u32,
+        colors: *const [u16; 8],
+        n: usize,
+        transposed: bool,
+        map: *const u8,
+        cells: usize,
+        flags: *const u8,
+        lines: usize,
+        values: *mut f32,
+        room: usize,
+    ) -> u32;
+}
+
+pub(crate) fn block_allowed(bw4: usize, bh4: usize) -> bool {
+    // SAFETY: two numbers go in and one byte, 0 or 1, comes out; no memory is touched.
+    unsafe { palette_block_allowed(bw4, bh4) }
+}
+
+/// The number; `answer` becomes the context and the order's eight places.
+pub(crate) fn context(
+    map: &[u8],
+    stride: usize,
+    y: usize,
+    x: usize,
+    n: usize,
+    answer: &mut [u32; 9],
+) -> u32 {
+    // SAFETY: pointer and length are of one slice; `answer` is borrowed for this call alone.
+    unsafe { palette_context(map.as_ptr(), map.len(), stride, y, x, n, answer) }
+}
+
+/// The number; `found` becomes n, eight colours and orientation, `bits` the estimate.
+pub(crate) fn search(
+    asked: Asked<'_>,
+    map: &mut [u8],
+    flags: &mut [u8],
+    found: &mut [u32; 10],
+    bits: &mut f32,
+) -> u32 {
+    // SAFETY: each pointer and length is of one slice; the four mutable borrows do not overlap,
+    // and the function writes within their lengths only.
+    unsafe {
+        palette_search(
+            asked.samples.as_ptr(),
+            asked.samples.len(),
+            asked.width,
+            asked.height,
+            asked.bd,
+            asked.lambda,
+            asked.costs.as_ptr(),
+            asked.costs.len(),
+            map.as_mut_ptr(),
+            map.len(),
+            flags.as_mut_ptr(),
+            flags.len(),
+            found,
+            bits,
+        )
+    }
+}
+
+/// The number; `listed` becomes the count of words and the raw width.
+pub(crate) fn list(
+    palette: Lent<'_>,
+    cache: &[u16],
+    words: &mut [u32],
+    listed: &mut [u32; 2],
+) -> u32 {
+    // SAFETY: each pointer and length is of one slice; the two mutable borrows do not overlap,
+    // and the function writes within their lengths only.
+    unsafe {
+        palette_list(
+            palette.width,
+            palette.height,
+            palette.bd,
+            palette.colors,
+            palette.n,
+            palette.transposed,
+            palette.map.as_ptr(),
+            palette.map.len(),
+            palette.flags.as_ptr(),
+            palette.flags.len(),
+            cache.as_ptr(),
+            cache.len(),
+            words.as_mut_ptr(),
+            words.len(),
+            listed,
+        )
+    }
+}
+
+/// The number; `values` becomes the colours of the cells.
+pub(crate) fn pred(palette: Lent<'_>, values: &mut [f32]) -> u32 {
+    // SAFETY: each pointer and length is of one slice; `values` is the only mutable borrow, and
+    // the function writes within its length only.
+    unsafe {
+        palette_pred(
+            palette.width,
+            palette.height,
+            palette.bd,
+            palette.colors,
+            palette.n,
+            palette.transposed,
+            palette.map.as_ptr(),
+            palette.map.len(),
+            palette.flags.as_ptr(),
+            palette.flags.len(),
+            values.as_mut_ptr(),
+            values.len(),
+        )
+    }
+}
+
+#[cfg(test)]
+mod tests;

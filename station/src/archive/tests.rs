@@ -1,0 +1,84 @@
+//! What the safe functions cannot ask: lengths that their types rule out, and the returned
+//! fields after a refusal.
+
+use super::{Asked, Lent};
+
+const SAMPLES: [f32; 16] = [
+    10.0, 10.0, 10.0, 10.0, 10.0, 10.0, 10.0, 10.0, 20.0, 20.0, 20.0, 20.0, 20.0, 20.0, 20.0, 20.0,
+];
+
+fn asked(costs: &[f32]) -> Asked<'_> {
+    Asked {
+        samples: &SAMPLES,
+        width: 16,
+        height: 1,
+        bd: 8,
+        lambda: 0.0,
+        costs,
+    }
+}
+
+/// The number, with all that is returned, from buffers and fields filled beforehand.
+fn searched(costs: &[f32]) -> (u32, [u8; 16], [u8; 16], [u32; 10], f32) {
+    let (mut map, mut flags) = ([0xee; 16], [0xee; 16]);
+    let (mut found, mut bits) = ([77; 10], 7.5);
+    let number = super::search(asked(costs), &mut map, &mut flags, &mut found, &mut bits);
+    (number, map, flags, found, bits)
+}
+
+#[test]
+fn the_worked_block() {
+    let (number, map, flags, found, bits) = searched(&[0.0; 301]);
+    assert_eq!(number, 0);
+    assert_eq!(map, [0, 0, 0, 0, 0, 0, 0, 0, 1, 1, 1, 1, 1, 1, 1, 1]);
+    assert_eq!((flags[0], &flags[1..]), (0, &[0xee; 15][..]));
+    assert_eq!(found, [2, 10, 20, 0, 0, 0, 0, 0, 0, 0]);
+    assert_eq!(bits, 51.0);
+}
+
+#[test]
+fn costs_of_another_length_are_5() {
+    for length in [0, 1, 300, 302, 1000] {
+        let (number, map, flags, found, bits) = searched(&vec![0.0; length]);
+        assert_eq!(number, 5, "{length} costs");
+        assert_eq!((map, flags), ([0xee; 16], [0xee; 16]));
+        assert_eq!((found, bits.to_bits()), ([0; 10], 0));
+    }
+}
+
+const EIGHT: [u16; 8] = [1, 2, 3, 4, 5, 6, 7, 8];
+
+fn lent(n: usize) -> Lent<'static> {
+    Lent {
+        width: 2,
+        height: 1,
+        bd: 8,
+        colors: &EIGHT,
+        n,
+        transposed: false,
+        map: &[0, 1],
+        flags: &[0],
+    }
+}
+
+#[test]
+fn more_than_eight_colors_are_11() {
+    for n in [0, 1, 9, 10, usize::MAX] {
+        let (mut words, mut listed, mut values) = ([0xdead; 40], [9; 2], [7.5; 4]);
+        assert_eq!(super::list(lent(n), &[], &mut words, &mut listed), 11);
+        assert_eq!((words, listed), ([0xdead; 40], [0; 2]));
+        assert_eq!(super::pred(lent(n), &mut values), 11);
+        assert_eq!(values, [7.5; 4]);
+    }
+    let (mut words, mut listed) = ([0xdead; 40], [9; 2]);
+    assert_eq!(super::list(lent(8), &[], &mut words, &mut listed), 0);
+}
+
+#[test]
+fn a_refused_context_is_all_zero() {
+    let mut answer = [9; 9];
+    assert_eq!(super::context(&[1, 1, 1], 2, 1, 1, 2, &mut answer), 0);
+    assert_eq!(answer, [4, 1, 0, 0, 0, 0, 0, 0, 0]);
+    assert_eq!(super::context(&[1, 1, 1], 2, 0, 0, 2, &mut answer), 18);
+    assert_eq!(answer, [0; 9]);
+}

@@ -1,0 +1,177 @@
+//! The command line.
+
+use crate::whole;
+use std::ffi::{OsStr, OsString};
+use std::path::{Path, PathBuf};
+use std::str::FromStr;
+
+pub const HELP: &str = "\
+usage: sheet [OPTION]... [FILE]
+
+Cuts a scanned sheet into blocks, searches a palette for each, lists its calls
+and prints a summary. FILE is a PGM scan (P5, maxval 255 to 4095), or - for
+standard input. Without FILE a sample drawing is made and searched.
+
+  --side N        side of a block, 1 to 64 (64); blocks at the edges are smaller
+  --lambda X      weight of the bits, 0 to 1048576 (60)
+  --costs FILE    301 costs, each 0 to 32, separated by white space
+                  (computed from the tables)
+  --threads N     1 to 256 (1); the output does not depend on it
+  --lists FILE    write the call lists: per block a line with the number of
+                  calls, then kind, first and second of each; for a refused
+                  block 0 and the refusal's number
+  --picture FILE  write the sheet as PPM, its blocks tinted: found with 2 to 8
+                  colours green to blue to violet; refused for its sides (8)
+                  yellow, one level (9) grey, more than 32 levels (10) red
+  --sample FILE   write the sample drawing as PGM, where FILE is not given
+  --help          print this
+";
+
+const MOST_SIDE: usize = 64;
+const MOST_THREADS: usize = 256;
+const MOST_LAMBDA: f32 = 1_048_576.0;
+
+pub struct Options {
+    pub input: Option<PathBuf>,
+    pub side: usize,
+    pub lambda: f32,
+    pub threads: usize,
+    pub costs: Option<PathBuf>,
+    pub lists: Option<PathBuf>,
+    pub picture: Option<PathBuf>,
+    pub sample: Option<PathBuf>,
+}
+
+pub enum Request {
+    Help,
+    Run(Options),
+}
+
+pub fn parse(words: impl Iterator<Item = OsString>) -> Result<Request, String> {
+    let mut words = words;
+    let mut options = defaults();
+    let mut seen = Vec::new();
+    while let Some(word) = words.next() {
+        if word == "--help" {
+            return Ok(Request::Help);
+        }
+        if !is_option(&word) {
+            set_input(&mut options, word)?;
+            continue;
+        }
+        let name = known(&word)?;
+        if seen.contains(&name) {
+            return Err(format!("{name} is given twice"));
+        }
+        seen.push(name);
+        let value = words
+            .next()
+            .ok_or_else(|| format!("{name} needs a value"))?;
+        set(&mut options, name, value)?;
+    }
+    check(&options)?;
+    Ok(Request::Run(options))
+}
+
+fn defaults() -> Options {
+    Options {
+        input: None,
+        side: MOST_SIDE,
+        lambda: 60.0,
+        threads: 1,
+        costs: None,
+        lists: None,
+        picture: None,
+        sample: None,
+    }
+}
+
+fn is_option(word: &OsStr) -> bool {
+    word != "-" && word.as_encoded_bytes().starts_with(b"-")
+}
+
+fn set_input(options: &mut Options, word: OsString) -> Result<(), String> {
+    if options.input.is_some() {
+        return Err(format!("more than one sheet: {}", word.to_string_lossy()));
+    }
+    options.input = Some(word.into());
+    Ok(())
+}
+
+fn known(word: &OsStr) -> Result<&'static str, String> {
+    const NAMES: [&str; 7] = [
+        "--side",
+        "--lambda",
+        "--threads",
+        "--costs",
+        "--lists",
+        "--picture",
+        "--sample",
+    ];
+    NAMES.into_iter().find(|name| word == *name).ok_or_else(|| {
+        let word = word.to_string_lossy();
+        format!("unknown option {word} (--help lists the options)")
+    })
+}
+
+fn set(options: &mut Options, name: &str, value: OsString) -> Result<(), String> {
+    match name {
+        "--side" => options.side = whole_number(name, &value, MOST_SIDE)?,
+        "--threads" => options.threads = whole_number(name, &value, MOST_THREADS)?,
+        "--lambda" => options.lambda = lambda(&value)?,
+        "--costs" => options.costs = Some(value.into()),
+        "--lists" => options.lists = Some(value.into()),
+        "--picture" => options.picture = Some(value.into()),
+        _ => options.sample = Some(value.into()),
+    }
+    Ok(())
+}
+
+fn whole_number(name: &str, value: &OsStr, most: usize) -> Result<usize, String> {
+    match parsed(value) {
+        Some(number) if (1..=most).contains(&number) => Ok(number),
+        _ => {
+            let value = value.to_string_lossy();
+            Err(format!("{name} is 1 to {most}, not {value}"))
+        }
+    }
+}
+
+fn lambda(value: &OsStr) -> Result<f32, String> {
+    match parsed(value) {
+        Some(number) if (0.0..=MOST_LAMBDA).contains(&number) => Ok(number),
+        _ => {
+            let value = value.to_string_lossy();
+            Err(format!("--lambda is 0 to {MOST_LAMBDA}, not {value}"))
+        }
+    }
+}
+
+fn parsed<T: FromStr>(value: &OsStr) -> Option<T> {
+    value.to_str()?.parse().ok()
+}
+
+/// No output may fall on another one or on what is read.
+fn check(options: &Options) -> Result<(), String> {
+    if options.input.is_some() && options.sample.is_some() {
+        return Err("--sample goes without a sheet".to_string());
+    }
+    let read = [&options.input, &options.costs];
+    let mut taken: Vec<PathBuf> = read
+        .into_iter()
+        .flatten()
+        .map(|p| whole::place(p))
+        .collect();
+    for path in [&options.lists, &options.picture, &options.sample] {
+        let Some(path) = path else { continue };
+        if path == Path::new("-") {
+            return Err("only the sheet may be -".to_string());
+        }
+        let place = whole::place(path);
+        if taken.contains(&place) {
+            return Err(format!("{} is named twice", path.display()));
+        }
+        taken.push(place);
+    }
+    Ok(())
+}

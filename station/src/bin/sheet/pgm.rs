@@ -1,0 +1,176 @@
+//! A scanned sheet and its file form, PGM (P5).
+
+use std::io::{self, Read, Write};
+
+/// Room for two bytes a sample stays within 2 GiB.
+const MOST_SAMPLES: usize = 1 << 30;
+const LEAST_MAXVAL: usize = 255;
+const MOST_MAXVAL: usize = 4095;
+
+pub struct Sheet {
+    pub width: usize,
+    pub height: usize,
+    pub maxval: u16,
+    pub samples: Vec<u16>,
+}
+
+impl Sheet {
+    /// The least depth that holds every sample.
+    pub fn depth(&self) -> u32 {
+        (8..12).find(|&bd| self.maxval < 1 << bd).unwrap_or(12)
+    }
+}
+
+/// Reads a whole file: header, samples, and nothing after them.
+pub fn read(input: &mut impl Read) -> Result<Sheet, String> {
+    let mut header = Header { input };
+    header.magic()?;
+    let width = header.number("width")?;
+    let height = header.number("height")?;
+    let maxval = header.number("maxval")?;
+    check_sides(width, height)?;
+    if !(LEAST_MAXVAL..=MOST_MAXVAL).contains(&maxval) {
+        return Err(format!(
+            "maxval {maxval} is not within {LEAST_MAXVAL} to {MOST_MAXVAL}"
+        ));
+    }
+    let sheet = Sheet {
+        width,
+        height,
+        maxval: maxval as u16,
+        samples: read_rows(input, width, height, maxval as u16)?,
+    };
+    match next_byte(input)? {
+        None => Ok(sheet),
+        Some(_) => Err("bytes follow the last sample".to_string()),
+    }
+}
+
+fn check_sides(width: usize, height: usize) -> Result<(), String> {
+    if width == 0 || height == 0 {
+        return Err("a side of the sheet is 0".to_string());
+    }
+    match width.checked_mul(height) {
+        Some(count) if count <= MOST_SAMPLES => Ok(()),
+        _ => Err(format!(
+            "{width} by {height} is more than {MOST_SAMPLES} samples"
+        )),
+    }
+}
+
+/// Row by row, so that a header that promises too much takes no more room than the file has.
+fn read_rows(
+    input: &mut impl Read,
+    width: usize,
+    height: usize,
+    maxval: u16,
+) -> Result<Vec<u16>, String> {
+    let mut bytes = vec![0; width * sample_bytes(maxval)];
+    let mut samples = Vec::new();
+    for y in 0..height {
+        input.read_exact(&mut bytes).map_err(|e| match e.kind() {
+            io::ErrorKind::UnexpectedEof => format!("cut off in row {y} of {height}"),
+            _ => e.to_string(),
+        })?;
+        let start = samples.len();
+        push_row(&bytes, maxval, &mut samples);
+        if let Some(x) = samples[start..].iter().position(|&v| v > maxval) {
+            return Err(format!(
+                "the sample at column {x} of row {y} is above maxval {maxval}"
+            ));
+        }
+    }
+    Ok(samples)
+}
+
+fn push_row(bytes: &[u8], maxval: u16, samples: &mut Vec<u16>) {
+    if sample_bytes(maxval) == 1 {
+        samples.extend(bytes.iter().map(|&b| u16::from(b)));
+    } else {
+        let pairs = bytes.chunks_exact(2);
+        samples.extend(pairs.map(|pair| u16::from_be_bytes([pair[0], pair[1]])));
+    }
+}
+
+fn sample_bytes(maxval: u16) -> usize {
+    if maxval < 256 {
+        1
+    } else {
+        2
+    }
+}
+
+pub fn write(sheet: &Sheet, output: &mut impl Write) -> io::Result<()> {
+    write!(
+        output,
+        "P5\n{} {}\n{}\n",
+        sheet.width, sheet.height, sheet.maxval
+    )?;
+    for &sample in &sheet.samples {
+        let bytes = sample.to_be_bytes();
+        output.write_all(&bytes[2 - sample_bytes(sheet.maxval)..])?;
+    }
+    Ok(())
+}
+
+struct Header<'a, R: Read> {
+    input: &'a mut R,
+}
+
+impl<R: Read> Header<'_, R> {
+    fn magic(&mut self) -> Result<(), String> {
+        let start = [next_byte(self.input)?, next_byte(self.input)?];
+        if start == [Some(b'P'), Some(b'5')] {
+            Ok(())
+        } else {
+            Err("not a PGM file (P5)".to_string())
+        }
+    }
+
+    /// Skips white space, then takes digits and the one white space that ends them.
+    fn number(&mut self, what: &str) -> Result<usize, String> {
+        let mut value: Option<usize> = None;
+        loop {
+            let byte = self.byte(what)?;
+            match (byte, value) {
+                (b'0'..=b'9', before) => {
+                    let digit = usize::from(byte - b'0');
+                    let longer = before.unwrap_or(0).checked_mul(10);
+                    let longer = longer.and_then(|v| v.checked_add(digit));
+                    value = Some(longer.ok_or_else(|| format!("{what} is too large"))?);
+                }
+                (_, Some(whole)) if is_space(byte) => return Ok(whole),
+                (_, None) if is_space(byte) => {}
+                _ => return Err(format!("{what} is not a number")),
+            }
+        }
+    }
+
+    /// A comment counts as the line end behind it, wherever it stands.
+    fn byte(&mut self, what: &str) -> Result<u8, String> {
+        let mut byte = next_byte(self.input)?;
+        if byte == Some(b'#') {
+            while !matches!(byte, None | Some(b'\n' | b'\r')) {
+                byte = next_byte(self.input)?;
+            }
+        }
+        byte.ok_or_else(|| format!("cut off in the header, at {what}"))
+    }
+}
+
+/// White space as PGM has it.
+fn is_space(byte: u8) -> bool {
+    matches!(byte, b' ' | b'\t' | b'\n' | b'\r' | 0x0b | 0x0c)
+}
+
+fn next_byte(input: &mut impl Read) -> Result<Option<u8>, String> {
+    let mut byte = [0];
+    loop {
+        match input.read(&mut byte) {
+            Ok(0) => return Ok(None),
+            Ok(_) => return Ok(Some(byte[0])),
+            Err(e) if e.kind() == io::ErrorKind::Interrupted => {}
+            Err(e) => return Err(e.to_string()),
+        }
+    }
+}

@@ -1,0 +1,86 @@
+//! The context of a cell.
+
+use crate::archive;
+use crate::limits::MAX_COLORS;
+use crate::Refusal;
+
+/// The context of a cell and the order of the indices there.
+///
+/// ```
+/// use palette_station::context;
+///
+/// // Left 1, diagonal 0, top 1: the pair first, then the diagonal, then the rest.
+/// let found = context(&[0, 1, 1, 0], 2, 1, 1, 3)?;
+/// assert_eq!(found.value(), 3);
+/// assert_eq!(found.order(), [1, 0, 2]);
+/// # Ok::<(), palette_station::Refusal>(())
+/// ```
+#[derive(Clone, Copy, Debug, PartialEq, Eq, Hash)]
+pub struct Context {
+    value: u8,
+    n: usize,
+    order: [u8; MAX_COLORS],
+}
+
+impl Context {
+    /// The context, 0 to 4.
+    ///
+    /// ```
+    /// let found = palette_station::context(&[0, 0, 0], 2, 1, 1, 2)?;
+    /// assert_eq!(found.value(), 4);
+    /// # Ok::<(), palette_station::Refusal>(())
+    /// ```
+    pub fn value(&self) -> u8 {
+        self.value
+    }
+
+    /// The n indices by rank.
+    ///
+    /// ```
+    /// let found = palette_station::context(&[2], 4, 0, 1, 3)?;
+    /// assert_eq!(found.order(), [2, 0, 1]);
+    /// # Ok::<(), palette_station::Refusal>(())
+    /// ```
+    pub fn order(&self) -> &[u8] {
+        &self.order[..self.n]
+    }
+
+    /// The rank of an index, if it is below n.
+    ///
+    /// ```
+    /// let found = palette_station::context(&[2], 4, 0, 1, 3)?;
+    /// assert_eq!(found.rank_of(2), Some(0));
+    /// assert_eq!(found.rank_of(3), None);
+    /// # Ok::<(), palette_station::Refusal>(())
+    /// ```
+    pub fn rank_of(&self, index: u8) -> Option<u8> {
+        let rank = self.order().iter().position(|&there| there == index)?;
+        Some(rank as u8)
+    }
+}
+
+/// The context at row `y` and column `x` of a map whose rows are `stride` apart, with n colours.
+/// The rows are the picture's, also when the lines of the map are columns. Only the neighbours
+/// left, above and between are read, so a decoder can ask while it fills its map.
+///
+/// Refused by 18 only.
+///
+/// ```
+/// use palette_station::{context, Refusal};
+///
+/// assert_eq!(context(&[1], 64, 1, 0, 2)?.order(), [1, 0]);
+/// assert_eq!(context(&[1], 64, 0, 0, 2), Err(Refusal::CONTEXT));
+/// # Ok::<(), Refusal>(())
+/// ```
+pub fn context(
+    map: &[u8],
+    stride: usize,
+    y: usize,
+    x: usize,
+    n: usize,
+) -> Result<Context, Refusal> {
+    let mut words = [0; 9];
+    Refusal::check(archive::context(map, stride, y, x, n, &mut words))?;
+    let [value, order @ ..] = words.map(|word| word as u8);
+    Ok(Context { value, n, order })
+}

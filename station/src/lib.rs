@@ -1,0 +1,62 @@
+//! Palette blocks for stations: the proved search, listing and prediction as safe functions.
+//!
+//! A block of a scanned sheet becomes 2 to 8 colours and an index map ([`search`]), and these
+//! become a list of calls ([`list`]) for a byte coder ([`replay`]). Document 01 is the
+//! specification; its numbers come back as a [`Refusal`].
+//!
+//! ```
+//! use palette_station::{list, search, Block, Costs};
+//!
+//! // 16 by 1: eight samples of 10, then eight of 20.
+//! let samples = [[10.0; 8], [20.0; 8]].concat();
+//! let block = Block { samples: &samples, width: 16, height: 1, bd: 8 };
+//! let palette = search(&block, 60.0, &Costs::default())?;
+//! assert_eq!(palette.colors[..], [10, 20]);
+//!
+//! let listing = list(&palette, &[])?;
+//! for call in listing.calls() {
+//!     println!("{:?}", call.expect("a listing holds known words only"));
+//! }
+//! # Ok::<(), palette_station::Refusal>(())
+//! ```
+//!
+//! Equal input gives equal lists on every station; different palettes of one width, height, depth
+//! and cache never share a list. No input makes a function fail other than by a refusal, and a
+//! refusal leaves every lent buffer as it was.
+//!
+//! [`search`], [`list`] and [`pred`] allocate what they hand back. A station that goes through
+//! many blocks lends its own buffers to [`search_into`], [`list_into`] and [`pred_into`]; then
+//! nothing is allocated.
+
+#![deny(missing_docs)]
+#![deny(unsafe_code)]
+
+#[allow(unsafe_code)]
+mod archive;
+mod calls;
+mod context;
+mod costs;
+mod limits;
+mod listing;
+mod palette;
+mod pred;
+mod refusal;
+mod search;
+pub mod tables;
+
+pub use calls::{replay, Call, Calls, Coder, UnknownWord};
+pub use context::{context, Context};
+pub use costs::Costs;
+pub use limits::{
+    word_room, COSTS, MAX_CACHE, MAX_CELLS, MAX_COLORS, MAX_LINES, MAX_SIDE, MAX_WORDS,
+};
+pub use listing::{list, list_into, Listing, ListingView};
+pub use palette::{Colors, Palette, PaletteView};
+pub use pred::{pred, pred_into};
+pub use refusal::Refusal;
+pub use search::{block_allowed, search, search_into, Block};
+
+// The README's examples are tested too.
+#[cfg(doctest)]
+#[doc = include_str!("../README.md")]
+struct Readme;

@@ -1,0 +1,76 @@
+//! What several tests need. Each of them uses a part.
+#![allow(dead_code)]
+
+pub mod decode;
+
+use palette_station::{Block, Colors, Palette};
+
+/// Fills buffers before a call, so that a write shows.
+pub const BYTE: u8 = 0xee;
+/// The same for words.
+pub const WORD: u32 = 0xeeee_eeee;
+/// The same for values.
+pub const VALUE: f32 = -7.5;
+
+/// Eight samples of 10, then eight of 20, as often as it takes.
+pub fn halves(cells: usize) -> Vec<f32> {
+    (0..cells)
+        .map(|place| if place % 16 < 8 { 10.0 } else { 20.0 })
+        .collect()
+}
+
+pub fn block(samples: &[f32], width: usize, height: usize) -> Block<'_> {
+    Block {
+        samples,
+        width,
+        height,
+        bd: 8,
+    }
+}
+
+/// A palette of n colours whose map counts through the indices, every cell coded.
+pub fn counting(width: usize, height: usize, n: usize) -> Palette {
+    let colors: Vec<u16> = (0..n as u16).map(|index| 10 + 20 * index).collect();
+    Palette {
+        width,
+        height,
+        bd: 8,
+        colors: Colors::new(&colors).expect("at most eight"),
+        transposed: false,
+        map: (0..width * height).map(|cell| (cell % n) as u8).collect(),
+        flags: vec![0; height],
+        bits: 0.0,
+    }
+}
+
+/// Random numbers by splitmix64.
+pub struct Random(pub u64);
+
+impl Random {
+    pub fn below(&mut self, end: u64) -> u64 {
+        self.0 = self.0.wrapping_add(0x9e37_79b9_7f4a_7c15);
+        let mut z = self.0;
+        z = (z ^ (z >> 30)).wrapping_mul(0xbf58_476d_1ce4_e5b9);
+        z = (z ^ (z >> 27)).wrapping_mul(0x94d0_49bb_1331_11eb);
+        (z ^ (z >> 31)) % end
+    }
+
+    pub fn between(&mut self, first: usize, last: usize) -> usize {
+        first + self.below((last - first + 1) as u64) as usize
+    }
+
+    /// Samples of a block: runs of a few levels, with noise that stays within a level.
+    pub fn samples(&mut self, cells: usize, bd: u32) -> Vec<f32> {
+        let top = (1u64 << bd) - 1;
+        let levels: Vec<u64> = (0..self.between(1, 12)).map(|_| self.below(top)).collect();
+        let mut level = levels[0];
+        (0..cells)
+            .map(|_| {
+                if self.below(4) == 0 {
+                    level = levels[self.between(0, levels.len() - 1)];
+                }
+                level as f32 + self.below(3) as f32 / 8.0
+            })
+            .collect()
+    }
+}

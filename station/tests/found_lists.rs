@@ -1,0 +1,102 @@
+//! Found palettes are listed with any cache, and read back as they were.
+
+mod common;
+
+use common::decode::{decode, Decoded};
+use common::Random;
+use palette_station::{list, replay, search, Block, Coder, Costs, Palette, Refusal};
+use std::thread;
+
+/// Palettes of random blocks, with either orientation among them.
+fn found(random: &mut Random, blocks: usize) -> Vec<Palette> {
+    let one = |random: &mut Random| {
+        let (width, height) = (random.between(1, 64), random.between(1, 64));
+        let bd = random.between(8, 12) as u32;
+        let samples = random.samples(width * height, bd);
+        let block = Block {
+            samples: &samples,
+            width,
+            height,
+            bd,
+        };
+        let lambda = [0.0, 0.5, 20.0, 60.0, 200.0][random.between(0, 4)];
+        search(&block, lambda, &Costs::DEFAULT).ok()
+    };
+    (0..blocks).filter_map(|_| one(random)).collect()
+}
+
+/// Caches of 0, 1 and 64 entries: none, a colour, and colours between other values.
+fn caches(random: &mut Random, palette: &Palette) -> [Vec<u16>; 3] {
+    let any = |random: &mut Random| match random.below(3) {
+        0 => palette.colors[random.between(0, palette.colors.len() - 1)],
+        _ => random.below(65_536) as u16,
+    };
+    let longest = (0..64).map(|_| any(random)).collect();
+    [vec![], vec![palette.colors[1]], longest]
+}
+
+#[test]
+fn found_palettes_come_back_from_their_lists() {
+    let mut random = Random(2);
+    let palettes = found(&mut random, 250);
+    assert!(palettes.iter().any(|palette| palette.transposed));
+    assert!(palettes.iter().any(|palette| palette.flags.contains(&2)));
+    for palette in &palettes {
+        let due = Decoded {
+            colors: palette.colors.to_vec(),
+            transposed: palette.transposed,
+            map: palette.map.clone(),
+            flags: palette.flags.clone(),
+        };
+        let sides = (palette.width, palette.height);
+        for cache in caches(&mut random, palette) {
+            let listing = list(palette, &cache).expect("found, so listed");
+            assert_eq!(decode(&listing.words, sides, palette.bd, &cache), due);
+        }
+        assert_eq!(list(palette, &[0; 65]), Err(Refusal::CACHE));
+    }
+}
+
+/// Adds up the raw width.
+struct Raw(u32);
+
+impl Coder for Raw {
+    fn bypass(&mut self, width: u32, _: u32) {
+        self.0 += width;
+    }
+    fn uniform(&mut self, n: u32, _: u32) {
+        self.0 += n.next_power_of_two().ilog2();
+    }
+    fn size(&mut self, _: u32) {}
+    fn row(&mut self, _: u32, _: u32) {}
+    fn color(&mut self, _: u32, _: u32, _: u32) {}
+}
+
+#[test]
+fn raw_width_is_that_of_the_calls() {
+    let mut random = Random(3);
+    for palette in found(&mut random, 50) {
+        for cache in caches(&mut random, &palette) {
+            let listing = list(&palette, &cache).unwrap();
+            let mut raw = Raw(0);
+            replay(&listing.words, &mut raw).unwrap();
+            assert_eq!(raw.0, listing.raw_width);
+        }
+    }
+}
+
+#[test]
+fn threads_get_equal_lists() {
+    let listed = || {
+        let palettes = found(&mut Random(5), 60);
+        let lists = palettes.iter().map(|palette| list(palette, &[]).unwrap());
+        lists.collect::<Vec<_>>()
+    };
+    let alone = listed();
+    thread::scope(|scope| {
+        let threads: Vec<_> = (0..4).map(|_| scope.spawn(listed)).collect();
+        for thread in threads {
+            assert!(thread.join().unwrap() == alone);
+        }
+    });
+}

@@ -1,0 +1,164 @@
+//! The C header beside the archive: it declares every export, and a C program that calls them
+//! all is compiled and run.
+
+use palette_station as station;
+use std::collections::BTreeSet;
+use std::fs;
+use std::io::ErrorKind;
+use std::path::Path;
+use std::process::{Command, Output};
+
+/// Where the build found the archive.
+const ARCHIVE: &str = env!("STATION_ARCHIVE");
+
+fn header() -> String {
+    let path = Path::new(env!("CARGO_MANIFEST_DIR")).join("include/palette.h");
+    fs::read_to_string(path).expect("the header is there")
+}
+
+/// The header without its comments.
+fn code() -> String {
+    let header = header();
+    let pieces = header.split("/*");
+    let behind = |piece: &str| piece.split_once("*/").map(|(_, code)| code.to_string());
+    let code = pieces.map(|piece| behind(piece).unwrap_or_else(|| piece.to_string()));
+    code.collect()
+}
+
+/// The output of a program; none, with a message, where there is no such program.
+fn run(command: &mut Command) -> Option<Output> {
+    match command.output() {
+        Ok(output) => Some(output),
+        Err(error) if error.kind() == ErrorKind::NotFound => {
+            eprintln!("skipped: no {:?} on this machine", command.get_program());
+            None
+        }
+        Err(error) => panic!("{command:?}: {error}"),
+    }
+}
+
+/// Names in the header that stand before a bracket.
+fn declared() -> BTreeSet<String> {
+    let code = code();
+    let before = |(place, _): (usize, &str)| {
+        let name = code[..place].rsplit(|c: char| !c.is_ascii_alphanumeric() && c != '_');
+        name.into_iter().next().unwrap_or_default().to_string()
+    };
+    let names = code.match_indices('(').map(before);
+    names.filter(|name| name.starts_with("palette_")).collect()
+}
+
+/// Kinds and names of the archive's symbols; none, with a message, without nm.
+fn symbols() -> Option<Vec<(char, String)>> {
+    let output = run(Command::new("nm").arg(ARCHIVE))?;
+    assert!(output.status.success(), "nm failed on {ARCHIVE}");
+    let text = String::from_utf8_lossy(&output.stdout);
+    let symbol = |line: &str| match line.split_whitespace().collect::<Vec<_>>()[..] {
+        // Some systems put an underscore before C names.
+        [.., kind, name] if kind.len() == 1 => {
+            let kind = kind.chars().next()?;
+            Some((kind, name.trim_start_matches('_').to_string()))
+        }
+        _ => None,
+    };
+    Some(text.lines().filter_map(symbol).collect())
+}
+
+#[test]
+fn every_export_is_declared_and_nothing_else() {
+    let Some(symbols) = symbols() else { return };
+    let exports = symbols.into_iter().filter(|(kind, _)| *kind == 'T');
+    let names = exports.map(|(_, name)| name);
+    let exports: BTreeSet<String> = names.filter(|name| name.starts_with("palette_")).collect();
+    assert!(!exports.is_empty());
+    assert_eq!(declared(), exports);
+}
+
+/// So the functions allocate nothing, and calls from several threads share nothing.
+#[test]
+fn the_archive_moves_memory_only_and_keeps_none() {
+    let Some(symbols) = symbols() else { return };
+    let moves = ["memcpy", "memmove", "memset", "memcmp", "bcmp"];
+    for (kind, name) in symbols {
+        match kind.to_ascii_uppercase() {
+            'U' => assert!(moves.contains(&&name[..]), "the archive needs {name}"),
+            'T' | 'R' => {}
+            _ => panic!("{name} is of kind {kind}: neither code nor constant"),
+        }
+    }
+}
+
+#[test]
+fn a_c_program_calls_them_all() {
+    let here = Path::new(env!("CARGO_MANIFEST_DIR"));
+    let program = Path::new(env!("CARGO_TARGET_TMPDIR")).join("exports");
+    let mut compile = Command::new("cc");
+    compile
+        .args(["-std=c99", "-Wall", "-Wextra", "-Werror", "-pedantic", "-I"])
+        .arg(here.join("include"))
+        .arg(here.join("tests/c/exports.c"))
+        .arg(ARCHIVE)
+        .arg("-o")
+        .arg(&program);
+    let Some(compiled) = run(&mut compile) else {
+        return;
+    };
+    let messages = String::from_utf8_lossy(&compiled.stderr);
+    assert!(compiled.status.success(), "{messages}");
+    let output = Command::new(&program).output().expect("it runs");
+    let said = String::from_utf8_lossy(&output.stdout);
+    assert!(output.status.success() && said == "0 wrong\n", "{said}");
+}
+
+/// The number behind a name that the header defines.
+fn defined(name: &str) -> Option<usize> {
+    let code = code();
+    let line = |line: &str| match line.split_whitespace().collect::<Vec<_>>()[..] {
+        ["#define", there, number] if there == name => number.parse().ok(),
+        _ => None,
+    };
+    code.lines().find_map(line)
+}
+
+#[test]
+fn limits_are_those_of_the_package() {
+    let limits = [
+        ("PALETTE_MAX_SIDE", station::MAX_SIDE),
+        ("PALETTE_MAX_CELLS", station::MAX_CELLS),
+        ("PALETTE_MAX_LINES", station::MAX_LINES),
+        ("PALETTE_MAX_COLORS", station::MAX_COLORS),
+        ("PALETTE_MAX_CACHE", station::MAX_CACHE),
+        ("PALETTE_MAX_WORDS", station::MAX_WORDS),
+        ("PALETTE_COSTS", station::COSTS),
+    ];
+    for (name, limit) in limits {
+        assert_eq!(defined(name), Some(limit), "{name}");
+    }
+}
+
+#[test]
+fn numbers_are_those_of_the_package() {
+    let numbers = [
+        ("PALETTE_SIDE", station::Refusal::SIDE),
+        ("PALETTE_DEPTH", station::Refusal::DEPTH),
+        ("PALETTE_SAMPLE_COUNT", station::Refusal::SAMPLE_COUNT),
+        ("PALETTE_LAMBDA", station::Refusal::LAMBDA),
+        ("PALETTE_COST_TABLE", station::Refusal::COSTS),
+        ("PALETTE_SAMPLE", station::Refusal::SAMPLE),
+        ("PALETTE_ROOM", station::Refusal::ROOM),
+        ("PALETTE_SMALL", station::Refusal::SMALL),
+        ("PALETTE_ONE_LEVEL", station::Refusal::ONE_LEVEL),
+        ("PALETTE_MANY_LEVELS", station::Refusal::MANY_LEVELS),
+        ("PALETTE_BAD_COLORS", station::Refusal::COLORS),
+        ("PALETTE_ORIENTATION", station::Refusal::ORIENTATION),
+        ("PALETTE_LONG_CACHE", station::Refusal::CACHE),
+        ("PALETTE_LENGTHS", station::Refusal::LENGTHS),
+        ("PALETTE_BAD_MAP", station::Refusal::MAP),
+        ("PALETTE_WORD_ROOM", station::Refusal::WORD_ROOM),
+        ("PALETTE_TEXT", station::Refusal::TEXT),
+        ("PALETTE_NO_CONTEXT", station::Refusal::CONTEXT),
+    ];
+    for (name, refusal) in numbers {
+        assert_eq!(defined(name), Some(refusal.number() as usize), "{name}");
+    }
+}

@@ -1,0 +1,127 @@
+//! Each of document 01's numbers is reached, and says what it means.
+
+mod common;
+
+use common::{block, counting, halves};
+use palette_station::{
+    context, list, list_into, pred_into, search, search_into, Block, Colors, Costs, Palette,
+    Refusal,
+};
+use std::io::Write;
+use std::path::{Path, PathBuf};
+use std::process::{Command, Stdio};
+
+fn search_number(change: impl FnOnce(&mut Block, &mut f32, &mut [f32; 301])) -> u32 {
+    let samples = halves(32);
+    let (mut block, mut lambda) = (block(&samples, 16, 2), 60.0);
+    let mut table = *Costs::DEFAULT.as_table();
+    change(&mut block, &mut lambda, &mut table);
+    let found = search(&block, lambda, &Costs::from_table(table));
+    found.map_or_else(Refusal::number, |_| 0)
+}
+
+#[test]
+fn search_1_to_10() {
+    assert_eq!(search_number(|_, _, _| {}), 0);
+    assert_eq!(search_number(|block, _, _| block.width = 65), 1);
+    assert_eq!(search_number(|block, _, _| block.bd = 13), 2);
+    assert_eq!(search_number(|block, _, _| block.height = 3), 3);
+    assert_eq!(search_number(|_, lambda, _| *lambda = -1.0), 4);
+    assert_eq!(search_number(|_, _, costs| costs[300] = 32.5), 5);
+    assert_eq!(search_number(|block, _, _| block.samples = &[256.0; 32]), 6);
+    let samples = halves(32);
+    let (mut map, mut flags) = ([0; 32], [0; 15]);
+    let costs = Costs::DEFAULT;
+    let refused = search_into(&block(&samples, 16, 2), 60.0, &costs, &mut map, &mut flags);
+    assert_eq!(refused, Err(Refusal::ROOM));
+    assert_eq!(
+        search_number(|block, _, _| (block.width, block.height) = (8, 4)),
+        8
+    );
+    assert_eq!(search_number(|block, _, _| block.samples = &[255.0; 32]), 9);
+    let ramp: Vec<f32> = (0..64).map(|level| level as f32).collect();
+    assert_eq!(
+        search(&block(&ramp, 32, 2), 60.0, &costs),
+        Err(Refusal::MANY_LEVELS)
+    );
+}
+
+fn list_number(cache: &[u16], change: impl FnOnce(&mut Palette)) -> u32 {
+    let mut palette = Palette::example();
+    change(&mut palette);
+    list(&palette, cache).map_or_else(Refusal::number, |_| 0)
+}
+
+#[test]
+fn listing_1_2_and_11_to_16() {
+    assert_eq!(list_number(&[], |_| {}), 0);
+    assert_eq!(list_number(&[], |p| p.height = 0), 1);
+    assert_eq!(list_number(&[], |p| p.bd = 7), 2);
+    assert_eq!(list_number(&[], |p| p.colors = Colors::default()), 11);
+    let mut wide = counting(64, 2, 2);
+    wide.transposed = true;
+    assert_eq!(list(&wide, &[]), Err(Refusal::ORIENTATION));
+    assert_eq!(list_number(&[0; 65], |_| {}), 13);
+    assert_eq!(list_number(&[], |p| p.map.truncate(7)), 14);
+    assert_eq!(list_number(&[], |p| p.flags[0] = 2), 15);
+    let mut words = [0; 11];
+    let refused = list_into(&Palette::example().view(), &[], &mut words);
+    assert_eq!(refused, Err(Refusal::WORD_ROOM));
+}
+
+#[test]
+fn prediction_7_and_context_18() {
+    let mut values = [0.0; 7];
+    let refused = pred_into(&Palette::example().view(), &mut values);
+    assert_eq!(refused, Err(Refusal::ROOM));
+    assert_eq!(context(&[0; 4], 2, 0, 0, 2), Err(Refusal::CONTEXT));
+}
+
+/// Only the listing program gives 17: LIST_PROGRAM names it, else it is looked for beside this
+/// package.
+#[test]
+fn text_17() {
+    let beside = Path::new(env!("CARGO_MANIFEST_DIR")).join("../target/bin/list");
+    let program = std::env::var_os("LIST_PROGRAM").map_or(beside, PathBuf::from);
+    if !program.exists() {
+        eprintln!("skipped: no listing program (set LIST_PROGRAM, or run `rt check list`)");
+        return;
+    }
+    let pipes = (Stdio::piped(), Stdio::piped());
+    let mut child = Command::new(program)
+        .stdin(pipes.0)
+        .stdout(pipes.1)
+        .spawn()
+        .expect("it runs");
+    let mut input = child.stdin.take().expect("a pipe");
+    input.write_all(b"no palette\n").expect("it reads");
+    drop(input);
+    let output = child.wait_with_output().expect("it ends");
+    let fields = String::from_utf8_lossy(&output.stdout);
+    let fields: Vec<u32> = fields
+        .split_whitespace()
+        .map(|f| f.parse().unwrap())
+        .collect();
+    assert_eq!(fields, [0, Refusal::TEXT.number()]);
+}
+
+#[test]
+fn every_number_has_a_meaning_of_its_own() {
+    let refusals: Vec<Refusal> = (1..=18).filter_map(Refusal::from_number).collect();
+    assert_eq!(refusals.len(), 18);
+    for (place, refusal) in refusals.iter().enumerate() {
+        assert_eq!(refusal.number() as usize, place + 1);
+        let shown = format!("refused by {}: {}", place + 1, refusal.meaning());
+        assert_eq!(refusal.to_string(), shown);
+        let others = refusals
+            .iter()
+            .filter(|other| other.meaning() == refusal.meaning());
+        assert_eq!(others.count(), 1);
+        assert_eq!(
+            refusal.means_no_palette(),
+            (8..=10).contains(&refusal.number())
+        );
+    }
+    assert_eq!(Refusal::from_number(0), None);
+    assert_eq!(Refusal::from_number(19), None);
+}
