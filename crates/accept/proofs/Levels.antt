@@ -53,7 +53,10 @@ module _ (colors : List ℕ) (eight : length colors ≡ 8) where
       go (leb n 8) refl
 
   -- colours that pass 11 are n
-  pub length-given : (bd n : ℕ) → colorsOk bd (firstColors colors n) ≡ true → length (firstColors colors n) ≡ n
+  pub few-given : (bd n : ℕ) → colorsOk bd (firstColors colors n) ≡ true → n ≤ 8
   unfolding colorsOk
-  length-given bd n e =
-      length-first n (within-at 2 8 n (rw (within-first n) at (and-l (within 2 8 (length (firstColors colors n))) (levelsOk bd (firstColors colors n)) e)) .1)
+  few-given bd n e =
+      within-at 2 8 n (rw (within-first n) at (and-l (within 2 8 (length (firstColors colors n))) (levelsOk bd (firstColors colors n)) e)) .1
+
+  pub length-given : (bd n : ℕ) → colorsOk bd (firstColors colors n) ≡ true → length (firstColors colors n) ≡ n
+  length-given bd n e = length-first n (few-given bd n e)

@@ -86,18 +86,17 @@ pub fn orient_ok(width: usize, height: usize, transposed: bool) -> bool
     true
 }
 
-// Whether every index is below n.
-fn indices_ok(map: &[u8], n: usize) -> bool
+// Whether every index is below n. It looks at all of them: without a way out the loop is quicker.
+fn indices_ok(map: &[u8], n: u8) -> bool
     ensures { λ r. ⌜ r ≡ allIn (λ i. ltb i n) (now (map .entry)) ⌝ }
 {
+    let mut ok = true;
     let mut i: usize = 0;
     while i < map.len() {
-        if n <= map[i] as usize {
-            return false;
-        }
+        ok = ok & (map[i] < n);
         i += 1;
     }
-    true
+    ok
 }
 
 // The index at place a of line l.
@@ -207,7 +206,7 @@ pub fn fault(
     if flags.len() != context::lines_of(transposed, width, height) {
         return 14;
     }
-    if !indices_ok(map, n) {
+    if !indices_ok(map, n as u8) {
         return 15;
     }
     if !lines_ok(map, flags, width, height, transposed) {

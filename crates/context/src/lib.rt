@@ -1,11 +1,11 @@
 // The context of a cell of an index map, and the order of the indices there. `color_ctx` answers for all arguments; the
 // other functions may have a `requires`.
 ghost use mathlib.Core.Path.{_≡_};
-ghost use mathlib.Core.Bool.{not};
+ghost use mathlib.Core.Bool.{not, cond};
 ghost use mathlib.Core.List.{_∷_, []};
 ghost use Prim.Native.Nat.{_+_, _*_, _≤_, _<_, min};
-ghost use lib.ListN.{length, take, replicate};
-ghost use lib.Dec.{ltb};
+ghost use lib.ListN.{length, replicate};
+ghost use lib.Dec.{eqb};
 ghost use Rattle.lists.specs.Counted.{elem, bit};
 ghost use Rattle.context.specs.Map.{linesOf, lengthOf};
 ghost use Rattle.context.specs.Order.{byThree, around};
@@ -229,46 +229,77 @@ pub struct Ranked {
     pub rank: Rank,
 }
 
-fn below(a: u8, b: u8) -> usize
-    ensures { λ r. ⌜ (r ≡ bit (ltb a b)) × (r ≤ 1) ⌝ }
-{
-    if a < b { 1 } else { 0 }
+// The rank of an index that equals the left, top or diagonal neighbour first, or none of them.
+struct Choices {
+    pub left: u8,
+    pub top: u8,
+    pub diag: u8,
+    pub rest: u8,
 }
 
-fn wide(index: u8) -> usize
-    ensures { λ r. ⌜ r ≡ index ⌝ }
+fn bit_of(test: bool) -> u8
+    ensures { λ r. ⌜ (r ≡ bit test) × (r ≤ 1) ⌝ }
 {
-    index as usize
+    test as u8
 }
 
-// The rank of an index by the indices that come first: the order itself is not made.
-fn rank_near(firsts: [u8; 8], count: usize, index: Index) -> Rank
-    requires { ⌜ (count ≤ 3) × (index .0 < 8) ⌝ }
-    ensures { λ r. ⌜ r .0 ≡ rankFrom (index .0) 0 0 (take count firsts) ⌝ }
+// The context of three neighbours, by counting which are equal.
+fn ctx_of(left: Index, top: Index, diag: Index) -> usize
+    ensures { λ r. ⌜ r ≡ byThree (left .0) (top .0) (diag .0) .ctx ⌝ }
 {
-    let i = index.0;
-    let mut low: usize = 0;
-    let mut k: usize = 0;
-    while k < count {
-        let first = firsts[k];
-        if i == first {
-            return Rank(k as u8);
-        }
-        low += below(first, i);
-        k += 1;
+    let l = left.0;
+    let t = top.0;
+    let d = diag.0;
+    let some = (l == t) | (l == d) | (d == t);
+    let all = (l == t) & (l == d);
+    (1 + bit_of(some) + bit_of(l == t) + bit_of(all)) as usize
+}
+
+// Where index i stands: by the first of three neighbours that it equals, else at `rest`.
+fn first_of(i: u8, left: u8, top: u8, diag: u8, ranks: Choices) -> Rank
+    ensures { λ r. ⌜ r .0 ≡ cond (eqb i left) (ranks .left) (cond (eqb i top) (ranks .top) (cond (eqb i diag) (ranks .diag) (ranks .rest))) ⌝ }
+{
+    if i == left {
+        Rank(ranks.left)
+    } else if i == top {
+        Rank(ranks.top)
+    } else if i == diag {
+        Rank(ranks.diag)
+    } else {
+        Rank(ranks.rest)
     }
-    Rank((count + wide(i) - low) as u8)
 }
 
-fn rank_under(near: Near, index: Index) -> Ranked
-    requires { ⌜ (near .count ≤ 3) × (index .0 < 8) ⌝ }
-    ensures { λ r. ⌜ (r .ctx ≡ near .ctx) × (r .rank .0 ≡ rankFrom (index .0) 0 0 (take (near .count) (near .firsts))) ⌝ }
+// The rank of an index by three neighbours: the order itself is not made. All four ranks are told before one is taken, so
+// that no branch is needed.
+fn rank_of(left: Index, top: Index, diag: Index, index: Index) -> Rank
+    requires { ⌜ index .0 < 8 ⌝ }
+    ensures { λ r. ⌜ r .0 ≡ rankFrom (index .0) 0 0 (byThree (left .0) (top .0) (diag .0) .firsts) ⌝ }
 {
-    let firsts = near.firsts;
-    let rank = rank_near(firsts, near.count, index);
+    let l = left.0;
+    let t = top.0;
+    let d = diag.0;
+    let i = index.0;
+    let ranks = Choices {
+        left: bit_of((d == t) & (l != t)),
+        top: bit_of(d != t),
+        diag: 2 - bit_of(l == t),
+        rest: i
+            + bit_of(i < l)
+            + bit_of((l != t) & (i < t))
+            + bit_of((l != d) & (d != t) & (i < d)),
+    };
+    first_of(i, l, t, d, ranks)
+}
+
+// One neighbour has the ranks of three equal ones, and context 0.
+fn ranked_by_one(near: Index, index: Index) -> Ranked
+    requires { ⌜ index .0 < 8 ⌝ }
+    ensures { λ r. ⌜ (r .ctx ≡ 0) × (r .rank .0 ≡ rankFrom (index .0) 0 0 (near .0 ∷ [])) ⌝ }
+{
     Ranked {
-        ctx: near.ctx,
-        rank,
+        ctx: 0,
+        rank: rank_of(near, near, near, index),
     }
 }
 
@@ -280,13 +311,16 @@ pub fn rank_at(map: &[u8], w: usize, y: usize, x: usize, index: Index) -> Ranked
 {
     let p = y * w + x;
     if y == 0 {
-        let near = near_of(0, 1, map[p - 1], 0, 0);
-        return rank_under(near, index);
+        return ranked_by_one(Index(map[p - 1]), index);
     }
     if x == 0 {
-        let near = near_of(0, 1, map[p - w], 0, 0);
-        return rank_under(near, index);
+        return ranked_by_one(Index(map[p - w]), index);
     }
-    let near = nearest(Index(map[p - 1]), Index(map[p - w]), Index(map[p - w - 1]));
-    rank_under(near, index)
+    let left = Index(map[p - 1]);
+    let top = Index(map[p - w]);
+    let diag = Index(map[p - w - 1]);
+    Ranked {
+        ctx: ctx_of(left, top, diag),
+        rank: rank_of(left, top, diag, index),
+    }
 }

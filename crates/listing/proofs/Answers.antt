@@ -36,12 +36,17 @@ module _ (w h bd : ℕ) (cache : List ℕ) (p : Palette) (before : List ℕ) whe
   short e f after a =
       record { number = rw e (simp (lt-leb (length list) (length before) f)); count = refl; width = refl; words = a }
 
-  pub whole : refusal w h bd (length cache) p ≡ 0 → length list ≤ length before → (after : List ℕ) (count raw : ℕ)
-      → after ≡ front list before → count ≡ length list → raw ≡ rawWidth list
-      → Lists w h bd cache p before after (record { number = 0; count = count; «raw_width» = raw })
+  pub whole : refusal w h bd (length cache) p ≡ 0 → length list ≤ length before → (after : List ℕ) (r : Listed)
+      → after ≡ front list before → r .number ≡ 0 → r .count ≡ length list → r .«raw_width» ≡ rawWidth list
+      → Lists w h bd cache p before after r
   unfolding listNumber
-  whole e f after count raw a c r =
-      record { number = rw e (simp (le-leb (length list) (length before) f)); count = c; width = r; words = a }
+  whole e f after r a z c raw =
+      record {
+        number = z ∙ sym (rw e (simp (le-leb (length list) (length before) f)));
+        count = rw z c;
+        width = rw z raw;
+        words = rw z a;
+      }
 
   -- a count is never above the longest list
   pub count-few : (after : List ℕ) (r : Listed) → Lists w h bd cache p before after r → r .count ≤ 4234

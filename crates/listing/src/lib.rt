@@ -2,12 +2,16 @@
 use context::Index;
 use context::Level;
 ghost use mathlib.Core.Path.{_≡_};
+ghost use mathlib.Core.Bool.{_&&_};
 ghost use mathlib.Core.List.{_++_};
-ghost use Prim.Native.Nat.{ℕ, _*_, _≤_, _<_};
+ghost use Prim.Native.Nat.{ℕ, _+_, _*_, _≤_, _<_};
+ghost use lib.Dec.{ltb};
 ghost use lib.IntN.{pos};
 ghost use lib.Ieee.{binary32, ofInt};
 ghost use lib.ListN.{length, take, drop, getD};
+ghost use Rattle.lists.specs.Counted.{bit};
 ghost use Rattle.lists.specs.Written.{written};
+ghost use Rattle.counts.specs.Counts.{ceilLog2};
 ghost use Rattle.literals.specs.Words.{rawBits, rawWidth};
 ghost use Rattle.accept.specs.Palette.{paletteOf};
 ghost use Rattle.accept.specs.Accepted.{Accepted};
@@ -48,7 +52,7 @@ fn raw_bits(word: u32) -> u32
 // The raw width of the first `count` words.
 fn raw_width(words: &[u32], count: usize) -> u32
     requires { ⌜ (count ≤ length (now words)) × (count ≤ 65536) ⌝ }
-    ensures { λ r. ⌜ r ≡ rawWidth (take count (now (words .entry))) ⌝ }
+    ensures { λ r. ⌜ (r ≡ rawWidth (take count (now (words .entry)))) × (r ≤ 255 * count) ⌝ }
 {
     let mut total: u32 = 0;
     let mut i: usize = 0;
@@ -59,7 +63,20 @@ fn raw_width(words: &[u32], count: usize) -> u32
     total
 }
 
-// The whole call list of an accepted palette, from the front.
+// What the map's words add to the raw width: the orientation bit where it is sent, and the uniform call of cell (0,0).
+fn map_raw_width(width: usize, height: usize, n: usize) -> u32
+    requires { ⌜ n ≤ 8 ⌝ }
+    ensures { λ r. ⌜ (r ≡ bit (ltb width 64 && ltb height 64) + ceilLog2 n) × (r ≤ 4) ⌝ }
+{
+    let uniform = counts::ceil_log2(n as u32);
+    if (width < 64) & (height < 64) {
+        return 1 + uniform;
+    }
+    uniform
+}
+
+// The whole call list of an accepted palette, from the front. Past the colours only two words can add to the raw width, so
+// that the many words of the map are not read again for it.
 fn emit_list(
     width: usize,
     height: usize,
@@ -71,14 +88,22 @@ fn emit_list(
     flags: &[u8],
     cache: &[u16],
     out: &mut [u32],
-) -> usize
+) -> Listed
     requires { ⌜ Accepted width height bd (now cache) (paletteOf colors n transposed (now map) (now flags)) ⌝ }
     requires { ⌜ (n ≤ 8) × (4234 ≤ length (now out)) ⌝ }
-    ensures { λ r. ⌜ r ≡ length (callList width height bd (now (cache .entry)) (paletteOf colors n transposed (now (map .entry)) (now (flags .entry)))) ⌝ }
+    ensures { λ r. ⌜ (r .number ≡ 0) × (r .count ≡ length (callList width height bd (now (cache .entry)) (paletteOf colors n transposed (now (map .entry)) (now (flags .entry))))) ⌝ }
+    ensures { λ r. ⌜ r .«raw_width» ≡ rawWidth (callList width height bd (now (cache .entry)) (paletteOf colors n transposed (now (map .entry)) (now (flags .entry)))) ⌝ }
     ensures { λ r. ⌜ now (out .exit) ≡ written (now (out .entry)) 0 (callList width height bd (now (cache .entry)) (paletteOf colors n transposed (now (map .entry)) (now (flags .entry)))) ⌝ }
 {
     let at = emit::emit_colors(colors, n, bd, cache, out, 0);
-    emit::emit_map(map, flags, width, height, n, transposed, out, at)
+    let before = raw_width(out, at);
+    let count = emit::emit_map(map, flags, width, height, n, transposed, out, at);
+    let raw = before + map_raw_width(width, height, n);
+    Listed {
+        number: 0,
+        count,
+        raw_width: raw,
+    }
 }
 
 // Copies the first `count` words to the front.
@@ -124,7 +149,7 @@ fn list_by(
     if number != 0 {
         return refused(number);
     }
-    let count = emit_list(
+    let listed = emit_list(
         width,
         height,
         bd,
@@ -136,18 +161,14 @@ fn list_by(
         cache,
         aside,
     );
+    let count = listed.count;
     let room = words.len();
     let kept = if room < count { 0 } else { count };
     copy_words(aside, kept, words);
     if room < count {
         return refused(16);
     }
-    let raw = raw_width(aside, count);
-    Listed {
-        number: 0,
-        count,
-        raw_width: raw,
-    }
+    listed
 }
 
 // Lists a palette's calls from the front, or refuses it and writes nothing.

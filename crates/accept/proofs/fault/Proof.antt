@@ -2,6 +2,7 @@
 use mathlib.Core.Bool.{Bool, true, false, cond}
 use mathlib.Core.Path.{_≡_, refl, sym, _∙_}
 use native.Mathlib.Nat.{mul-le-mul, lt-of-le-of-lt}
+use native.Mathlib.Omega.{arith}
 use denote.Ref.{now}
 use mir.Syntax.{w16}
 use borrow.Author.Needs.{needs}
@@ -14,7 +15,7 @@ use Rattle.accept.specs.Accepted.{sidesOk, depthOk, colorsOk, orientOk, 
 use Rattle.accept.specs.Palette.{Palette, paletteOf}
 use Rattle.accept.proofs.Accepted.{sides-at}
 use Rattle.lists.proofs.Counted.{within-at}
-use Rattle.accept.proofs.Levels.{length-given}
+use Rattle.accept.proofs.Levels.{few-given, length-given}
 use Rattle.accept.proofs.fault.Statement.{statement}
 use Rattle.accept.proofs.fault.Tie as tie
 
@@ -24,6 +25,9 @@ start c = c .before .before .before .before
 
 abbrev given : tie.Start → Palette
 given c = paletteOf (c .args .colors) (c .args .n) (c .args .transposed) (now (c .args .map)) (now (c .args .flags))
+
+eight : (s : tie.Start) → length (s .args .colors) ≡ 8
+eight s = good-length (eInt w16) 8 (s .args .colors) _ (s .good .1 .1 .1 .0)
 
 -- the tests that were passed
 sides : (c : tie.Else1) → sidesOk (start c .args .width) (start c .args .height) ≡ true
@@ -54,8 +58,7 @@ indices : (c : tie.After-indices-ok) (b : Bool) → c .indices-ok .result ≡ b
     → let s = start (c .before .before .before .before .before .before .before .before .before .before .before) in allIn (λ i. ltb i (length (given s .colors))) (now (s .args .map)) ≡ b
 indices c b e =
     let s = start (c .before .before .before .before .before .before .before .before .before .before .before) in
-    let eight : length (s .args .colors) ≡ 8 = good-length (eInt w16) 8 (s .args .colors) _ (s .good .1 .1 .1 .0) in
-    rw (length-given (s .args .colors) eight (s .args .bd) (s .args .n) (colors (c .before .before .before .before .before .before .before))) (sym (c .indices-ok .ensures) ∙ e)
+    rw (length-given (s .args .colors) (eight s) (s .args .bd) (s .args .n) (colors (c .before .before .before .before .before .before .before))) (sym (c .indices-ok .ensures) ∙ e)
 
 sides-ok-requires : tie.Need-sides-ok-requires
 sides-ok-requires c κs = search needs
@@ -108,6 +111,12 @@ returns-7 c =
     sym (rest (c .before .before .before)
     ∙ rw (eq-eqb _ _ (c .before .before .if6 .left), ne-eqb _ _ (λ e. c .if7 .taken (e ∙ sym (c .before .lines-of .ensures)))) refl)
 
+cast-indices-ok : tie.Need-cast-indices-ok
+cast-indices-ok c =
+    let tested = c .before .before .before .before .before .before in
+    let s = start (tested .before .before .before .before) in
+    omega (arith, few-given (s .args .colors) (eight s) (s .args .bd) (s .args .n) (colors tested))
+
 indices-ok-requires : tie.Need-indices-ok-requires
 indices-ok-requires c κs = search needs
 
@@ -147,6 +156,7 @@ fault-spec =
     returns-6
     lines-of-requires
     returns-7
+    cast-indices-ok
     indices-ok-requires
     returns-8
     lines-ok-requires

@@ -1,24 +1,28 @@
-use Prim.Native.Nat.{ℕ, _+_, _≤_, _<_}
-use mathlib.Core.Path.{_≡_, refl, _∙_}
-use mathlib.Core.Bool.{true}
+use Prim.Native.Nat.{ℕ, _+_, _≤_}
+use mathlib.Core.Path.{_≡_, refl, ap, _∙_}
+use mathlib.Core.Bool.{_&&_}
 use mathlib.Core.List.{List, _++_}
 use native.Mathlib.Omega.{arith}
-use lib.ListN.{length, take, getD, length-append}
+use lib.Dec.{ltb}
+use lib.ListN.{length, take, length-append}
 use borrow.Author.Needs.{needs}
 use borrow.Kind.Array.{good-length, eInt}
 use mir.Syntax.{w16}
 use Rattle.lists.proofs.Choice.{either-way}
-use Rattle.lists.proofs.Written.{written-append}
+use Rattle.lists.specs.Counted.{bit}
+use Rattle.lists.proofs.Written.{written-append, written-take}
+use Rattle.counts.specs.Counts.{ceilLog2}
 use Rattle.context.specs.Map.{linesOf, lengthOf}
-use Rattle.literals.specs.Literals.{levelsOk}
+use Rattle.literals.specs.Words.{rawWidth}
 use Rattle.accept.specs.Palette.{Palette, firstColors, paletteOf}
-use Rattle.accept.proofs.Accepted.{Facts, facts}
+use Rattle.accept.proofs.Accepted.{Facts, facts, lines-pos, flag, first-flag}
 use Rattle.accept.proofs.Levels.{first-colors, length-first}
 use Rattle.accept.proofs.Lines.{in-block}
 use Rattle.emit.specs.Colors.{colorWords}
 use Rattle.emit.specs.Map.{LinesInside, mapWords}
 use Rattle.listing.specs.Listing.{callList}
 use Rattle.listing.proofs.Length.{list-few}
+use Rattle.listing.proofs.Raw.{raw-append, raw-map}
 use Rattle.listing.proofs.emit_list.Statement.{statement}
 use Rattle.listing.proofs.emit_list.Tie as tie
 
@@ -57,6 +61,9 @@ module _ (s : tie.Start) where
   room : length colors + length map ≤ length (s .args .out .now)
   room = omega (arith, s .pre .1 .1, list-few _ _ _ _ _ (s .pre .0), sum)
 
+  long : 1 ≤ lengthOf (s .args .transposed) (s .args .width) (s .args .height)
+  long = either-way (λ k. 1 ≤ k) (s .args .transposed) (s .args .height) (s .args .width) (known .high) (known .wide)
+
   inside : LinesInside (s .args .map .now) (s .args .width) (s .args .n) (s .args .transposed)
       (linesOf (s .args .transposed) (s .args .width) (s .args .height)) (lengthOf (s .args .transposed) (s .args .width) (s .args .height))
   inside =
@@ -70,6 +77,34 @@ module _ (s : tie.Start) where
         below = λ i p. rw count at (f .index i (omega (arith, f .mapLength)));
       }
 
+  raw : rawWidth list ≡ rawWidth colors + (bit (ltb (s .args .width) 64 && ltb (s .args .height) 64) + ceilLog2 (s .args .n))
+  raw =
+      let f = known in
+      let t = s .args .transposed in
+      let width = raw-map (s .args .map .now) (s .args .width) (s .args .height) (s .args .n) t (s .args .flags .now) inside
+      (flag _ _ _ _ f) (first-flag _ _ _ _ f) (lines-pos _ _ _ _ f) long in
+      ap rawWidth parts ∙ raw-append colors map ∙ ap (λ (k : ℕ). rawWidth colors + k) width
+
+-- the colours stand in front
+module _ (c : tie.After-emit-colors) where
+  abbrev start : tie.Start
+  start = c .before .before .before .before .before .before
+
+  abbrev out : List ℕ
+  out = c .emit-colors .last .1 .1 .1 .1 .0
+
+  at-most : c .emit-colors .result ≤ 4234
+  at-most = omega (arith, c .emit-colors .ensures .0, sum start, list-few _ _ _ _ _ (start .pre .0))
+
+  enough : c .emit-colors .result ≤ length out
+  enough = omega (arith, c .emit-colors .ensures .0, room start, c .emit-colors .kept .1 .1 .1 .1 .0)
+
+  taken-colors : take (c .emit-colors .result) out ≡ colors start
+  taken-colors =
+      let count : c .emit-colors .result ≡ length (colors start) = omega (arith, c .emit-colors .ensures .0) in
+      ap (λ (k : ℕ). take k out) count ∙ ap (take (length (colors start))) (c .emit-colors .ensures .1)
+      ∙ written-take (start .args .out .now) (colors start) (omega (arith, room start))
+
 emit-colors-requires : tie.Need-emit-colors-requires
 emit-colors-requires c κs =
     let s = c .before .before .before .before .before in
@@ -77,25 +112,53 @@ emit-colors-requires c κs =
     let h : 0 + length (colors s) ≤ length (s .args .out .now) = omega (arith, room s) in
     ((rw (count s) at (f .enough), s .pre .1 .0, f .deep, f .deepMost, rw (taken s) at (f .levels)), h)
 
+raw-width-requires : tie.Need-raw-width-requires
+raw-width-requires c κs =
+    let e = c .before .before .before in
+    let h : e .emit-colors .result ≤ length (out e) = enough e in
+    (h, omega (arith, at-most e))
+
 emit-map-requires : tie.Need-emit-map-requires
 emit-map-requires c κs =
-    let s = c .before .before .before .before .before .before .before .before .before in
-    let e = c .before .before .before .emit-colors in
-    let f = known s in
-    let h : e .result + length (map s) ≤ length (e .last .1 .1 .1 .1 .0) = omega (arith, room s, e .ensures .0, e .kept .1 .1 .1 .1 .0) in
-    (inside s, ((either-way (λ k. 1 ≤ k) (s .args .transposed) (s .args .height) (s .args .width) (f .high) (f .wide), omega (arith, f .flagLength)), h))
+    let e = c .before .before .before .before .before in
+    let s = start e in
+    let h : e .emit-colors .result + length (map s) ≤ length (out e) =
+    omega (arith, room s, e .emit-colors .ensures .0, e .emit-colors .kept .1 .1 .1 .1 .0) in
+    (inside s, ((long s, omega (arith, known s .flagLength)), h))
+
+map-raw-width-requires : tie.Need-map-raw-width-requires
+map-raw-width-requires c κs = search needs
+
+add-raw : tie.Need-add-raw
+add-raw c =
+    let r = c .before .before .before .before .before in
+    omega (arith, r .raw-width .ensures .1, at-most (r .before .before .before .before), c .map-raw-width .ensures .1)
 
 same-length : tie.Need-same-length
 same-length c = search needs
 
 returns : tie.Need-returns
 returns c =
-    let s = c .before .before .before .before .before .before .before .before .before .before .before .before in
-    let e = c .before .before .before .before .before .before .emit-colors in
-    let m = c .before .before .emit-map in (
-      omega (arith, m .ensures .0, e .ensures .0, sum s),
-      m .ensures .1 ∙ rw (e .ensures .1, e .ensures .0, parts s) (written-append (s .args .out .now) 0 (colors s) (map s)),
+    let m = c .before .before .before in
+    let r = m .before .before in
+    let e = r .before .before .before .before in
+    let s = start e in (
+      (refl, omega (arith, m .emit-map .ensures .0, e .emit-colors .ensures .0, sum s)),
+      (
+        omega (arith, r .raw-width .ensures .0, ap rawWidth (taken-colors e), c .map-raw-width .ensures .0, raw s),
+        m .emit-map .ensures .1
+            ∙ rw (e .emit-colors .ensures .1, e .emit-colors .ensures .0, parts s) (written-append (s .args .out .now) 0 (colors s) (map s)),
+      ),
     )
 
 pub emit-list-spec : {M : Type 1} → statement M
-emit-list-spec = tie.close (tie.spec emit-colors-requires emit-map-requires same-length returns)
+emit-list-spec =
+    tie.close
+    (tie.spec
+    emit-colors-requires
+    raw-width-requires
+    emit-map-requires
+    map-raw-width-requires
+    add-raw
+    same-length
+    returns)

@@ -1,5 +1,5 @@
 use Prim.Native.Nat.{ℕ, _≤_}
-use mathlib.Core.Path.{_≡_, refl, sym, ap, _∙_}
+use mathlib.Core.Path.{_≡_, sym, ap, _∙_}
 use mathlib.Core.List.{List}
 use mathlib.Core.Logic.{⊎-elim}
 use native.Mathlib.Omega.{arith}
@@ -7,14 +7,13 @@ use lib.ListN.{length, take}
 use borrow.Author.Needs.{needs}
 use borrow.Kind.Array.{good-length, eInt}
 use mir.Syntax.{w16}
-use Rattle.lists.specs.Written.{written, front}
+use Rattle.lists.specs.Written.{written}
 use Rattle.lists.proofs.Written.{written-front, written-take}
-use Rattle.literals.specs.Words.{rawWidth}
 use Rattle.accept.specs.Palette.{Palette, paletteOf}
 use Rattle.accept.specs.Accepted.{refusal, Accepted}
 use Rattle.accept.proofs.Accepted.{accepted-of-zero, facts}
 use Rattle.accept.proofs.Levels.{length-given}
-use Rattle.listing.specs.Listing.{callList, Lists}
+use Rattle.listing.specs.Listing.{callList}
 use Rattle.listing.proofs.Answers.{faulty, short, whole}
 use Rattle.listing.proofs.Length.{list-few}
 use Rattle.listing.proofs.list_by.Statement.{statement}
@@ -60,13 +59,13 @@ module _ (c : tie.After-slice-known3) where
   words = start accepting .args .words .now
 
   abbrev count : ℕ
-  count = c .before .before .emit-list .result
+  count = c .before .before .emit-list .result .count
 
   abbrev made : List ℕ
   made = c .before .before .emit-list .last .1 .1 .1 .1 .1 .1 .1 .1 .1 .0
 
   counted : count ≡ length (list (start accepting))
-  counted = c .before .before .emit-list .ensures .0
+  counted = c .before .before .emit-list .ensures .0 .1
 
   enough : count ≤ length made
   enough =
@@ -76,7 +75,7 @@ module _ (c : tie.After-slice-known3) where
   taken : take count made ≡ list (start accepting)
   taken =
       let s = start accepting in
-      ap (λ (k : ℕ). take k made) counted ∙ ap (take (length (list s))) (c .before .before .emit-list .ensures .1)
+      ap (λ (k : ℕ). take k made) counted ∙ ap (take (length (list s))) (c .before .before .emit-list .ensures .1 .1)
       ∙ written-take (s .args .aside .now) (list s) (omega (arith, bounded accepting, s .pre))
 
 -- `kept` of its words stand in `words`
@@ -140,12 +139,6 @@ returns-2 c =
     rw (c .refused2 .ensures)
     (short _ _ _ _ _ _ (zero a) (omega (arith, small, counted e)) (after p) (p .copy-words .ensures ∙ untouched))
 
-raw-width-requires : tie.Need-raw-width-requires
-raw-width-requires c κs =
-    let e = standing (c .before .before .before .before) in
-    let g : count e ≤ length (made e) = enough e in
-    (g, omega (arith, bounded (accepting e), counted e))
-
 same-length-3 : tie.Need-same-length-3
 same-length-3 c = search needs
 
@@ -154,18 +147,20 @@ same-length-4 c = search needs
 
 returns-3 : tie.Need-returns-3
 returns-3 c =
-    let p = c .before .before .before .before .before in
+    let p = c .before .before .before in
     let e = standing p in
     let a = accepting e in
-    let large = c .before .before .if3 .left in
+    let l = e .before .before .emit-list in
+    let large = c .if3 .left in
     let fits : length (list (start a)) ≤ length (words e) = omega (arith, large, counted e) in
     let all : kept p ≡ count e =
     ⊎-elim (λ w. absurd (omega (arith, w .0 .taken, large))) (λ w. w .1) (p .before .before .before .if2 .came) in
-    whole _ _ _ _ _ _ (zero a) fits (after p) (count e) (c .raw-width .result)
+    whole _ _ _ _ _ _ (zero a) fits (after p) (l .result)
     (p .copy-words .ensures ∙ ap (λ (k : ℕ). written (words e) 0 (take k (made e))) all
     ∙ ap (written (words e) 0) (taken e) ∙ written-front (words e) (list (start a)) fits)
+    (l .ensures .0 .0)
     (counted e)
-    (c .raw-width .ensures ∙ ap rawWidth (taken e))
+    (l .ensures .1 .0)
 
 pub list-by-spec : {M : Type 1} → statement M
 list-by-spec =
@@ -180,7 +175,6 @@ list-by-spec =
     same-length
     same-length-2
     returns-2
-    raw-width-requires
     same-length-3
     same-length-4
     returns-3)

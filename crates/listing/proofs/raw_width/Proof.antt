@@ -1,11 +1,10 @@
 use Rattle.lists.proofs.Rest.{next, done}
-use Rattle.literals.specs.Words.{rawBits, rawWidth}
+use Rattle.literals.specs.Words.{rawWidth}
 use borrow.Author.Needs.{needs}
-use lib.ListN.{length, take, drop, getD}
+use lib.ListN.{take, drop}
 use native.Mathlib.Omega.{arith}
-use mathlib.Core.List.{List, _∷_}
-use mathlib.Core.Path.{_≡_, refl, sym, ap, _∙_}
-use Prim.Native.Nat.{ℕ, _≤_, _<_, _+_, _*_, _-_}
+use mathlib.Core.Path.{_≡_}
+use Prim.Native.Nat.{_≤_, _+_, _*_, _-_}
 use Rattle.listing.proofs.raw_width.Statement.{statement}
 use Rattle.listing.proofs.raw_width.Tie as tie
 
@@ -44,7 +43,9 @@ loop-again c = let l = c .before .before .before .loop in
 
 returns : tie.Need-returns Inv-loop μ-loop
 unfolding rawWidth
-returns c = let s = c .before .before .before in omega (arith, rw (done (s .args .count) (s .args .words .now) (s .pre .0) (c .before .loop .i) (c .loop-test .left)) at (c .before .loop .inv .2))
+returns c = let s = c .before .before .before in
+    let l = c .before .loop in
+    (omega (arith, rw (done (s .args .count) (s .args .words .now) (s .pre .0) (l .i) (c .loop-test .left)) at (l .inv .2)), omega (arith, l .inv .0, l .inv .1))
 
 pub raw-width-spec : {M : Type 1} → statement M
 raw-width-spec =
