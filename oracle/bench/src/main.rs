@@ -1,6 +1,7 @@
 //! Times our search and listing beside the original's search on three drawn sheets.
 
 mod batch;
+mod plot;
 mod rounds;
 mod sheets;
 mod table;
@@ -8,12 +9,13 @@ mod table;
 use batch::{corners, cut, due, search_ours, Answer, Block, Prices};
 use palette_oracle::generate::costs::logarithms;
 use palette_oracle::Costs;
+use plot::{chart, Bar};
 use rounds::{same_list, time, Timed};
 use sheets::{sheets, Sheet};
 use std::process::ExitCode;
 use table::{print_head, print_line, Outcome};
 
-const USAGE: &str = "usage: bench [--part N] [--passes N]";
+const USAGE: &str = "usage: bench [--part N] [--passes N] [--plot FILE]";
 const SIDES: [usize; 3] = [64, 32, 16];
 const LAMBDAS: [f32; 3] = [20.0, 60.0, 200.0];
 const PASSES: usize = 5;
@@ -26,6 +28,8 @@ struct Options {
     /// Only each so many-th block.
     part: usize,
     passes: usize,
+    /// Where the chart goes.
+    plot: Option<String>,
 }
 
 fn main() -> ExitCode {
@@ -36,8 +40,14 @@ fn main() -> ExitCode {
             return ExitCode::FAILURE;
         }
     };
-    let differences = run(&options);
+    let (differences, bars) = run(&options);
     println!("differences {differences}");
+    if let Some(path) = &options.plot {
+        if let Err(error) = std::fs::write(path, chart(&bars)) {
+            eprintln!("{path}: {error}");
+            return ExitCode::FAILURE;
+        }
+    }
     if differences == 0 {
         ExitCode::SUCCESS
     } else {
@@ -46,35 +56,46 @@ fn main() -> ExitCode {
 }
 
 fn read_options() -> Result<Options, String> {
-    let (mut part, mut passes) = (1, PASSES);
+    let (mut part, mut passes, mut plot) = (1, PASSES, None);
     let mut arguments = std::env::args().skip(1);
     while let Some(name) = arguments.next() {
-        let value = arguments.next().and_then(|text| text.parse().ok());
+        let text = arguments.next();
+        if let ("--plot", Some(path)) = (name.as_str(), &text) {
+            plot = Some(path.clone());
+            continue;
+        }
+        let value = text.and_then(|text| text.parse().ok());
         match (name.as_str(), value) {
             ("--part", Some(value @ 1..)) => part = value,
             ("--passes", Some(value @ 1..)) => passes = value,
             _ => return Err(USAGE.to_string()),
         }
     }
-    Ok(Options { part, passes })
+    Ok(Options { part, passes, plot })
 }
 
-fn run(options: &Options) -> usize {
+fn run(options: &Options) -> (usize, Vec<Bar>) {
     let costs = logarithms();
     let (part, passes) = (options.part, options.passes);
     println!("each {part}. block, the least of {passes} passes");
     print_head();
-    let mut differences = 0;
+    let (mut differences, mut bars) = (0, Vec::new());
     for sheet in sheets() {
         for side in SIDES {
             for lambda in LAMBDAS {
                 let outcome = measure(&sheet, side, lambda, &costs, options);
                 print_line(sheet.name, side, lambda, &outcome);
                 differences += outcome.differences;
+                bars.push(Bar {
+                    sheet: sheet.name,
+                    side,
+                    lambda,
+                    ratio: outcome.times.whole(),
+                });
             }
         }
     }
-    differences
+    (differences, bars)
 }
 
 fn measure(sheet: &Sheet, side: usize, lambda: f32, costs: &Costs, options: &Options) -> Outcome {

@@ -21,6 +21,12 @@ pub struct Times {
 }
 
 impl Times {
+    /// Our search's time divided by the original's, on all blocks.
+    pub fn whole(&self) -> f64 {
+        let ours = self.ours + self.ours_refused;
+        ours.as_secs_f64() / (self.original + self.original_refused).as_secs_f64()
+    }
+
     pub fn add(&mut self, other: &Times) {
         self.pairs(other, |mine, theirs| mine + theirs);
     }

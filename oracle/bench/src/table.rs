@@ -55,11 +55,10 @@ pub fn print_line(name: &str, side: usize, lambda: f32, outcome: &Outcome) {
         with(8).to_string(),
         with(9).to_string(),
         with(10).to_string(),
-        ratio(
-            blocks,
-            times.ours + times.ours_refused,
-            times.original + times.original_refused,
-        ),
+        match blocks {
+            0 => "-".to_string(),
+            _ => format!("{:.3}", times.whole()),
+        },
         ratio(found, times.ours, times.original),
         ratio(refused, times.ours_refused, times.original_refused),
         ratio(found, times.listing, times.ours),
