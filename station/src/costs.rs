@@ -240,7 +240,8 @@ mod tests {
         }
     }
 
-    /// The bits of the whole table, so that a change of any entry shows on every machine.
+    /// A change of any entry shows on every machine. The number is that of the table which
+    /// `tests/oracle.rs` holds to the original's, bit by bit.
     #[test]
     fn the_default_table_is_the_same_everywhere() {
         let hash = Costs::DEFAULT.0.iter().fold(0u64, |hash, cost| {

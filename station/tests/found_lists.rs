@@ -4,23 +4,15 @@ mod common;
 
 use common::decode::{decode, Decoded};
 use common::Random;
-use palette_station::{list, replay, search, Block, Coder, Costs, Palette, Refusal};
+use palette_station::{list, replay, search, Coder, Costs, Palette, Refusal};
 use std::thread;
 
 /// Palettes of random blocks, with either orientation among them.
 fn found(random: &mut Random, blocks: usize) -> Vec<Palette> {
     let one = |random: &mut Random| {
-        let (width, height) = (random.between(1, 64), random.between(1, 64));
-        let bd = random.between(8, 12) as u32;
-        let samples = random.samples(width * height, bd);
-        let block = Block {
-            samples: &samples,
-            width,
-            height,
-            bd,
-        };
+        let drawn = random.drawn();
         let lambda = [0.0, 0.5, 20.0, 60.0, 200.0][random.between(0, 4)];
-        search(&block, lambda, &Costs::DEFAULT).ok()
+        search(&drawn.block(), lambda, &Costs::DEFAULT).ok()
     };
     (0..blocks).filter_map(|_| one(random)).collect()
 }

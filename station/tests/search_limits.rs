@@ -194,25 +194,17 @@ fn found_palettes_are_in_order() {
     let mut random = Random(1);
     let mut found = 0;
     for _ in 0..300 {
-        let (width, height) = (random.between(1, 64), random.between(1, 64));
-        let bd = random.between(8, 12) as u32;
-        let samples = random.samples(width * height, bd);
-        let block = Block {
-            samples: &samples,
-            width,
-            height,
-            bd,
-        };
+        let drawn = random.drawn();
         let lambda = random.between(0, 300) as f32;
-        let Ok(palette) = search(&block, lambda, &Costs::DEFAULT) else {
+        let Ok(palette) = search(&drawn.block(), lambda, &Costs::DEFAULT) else {
             continue;
         };
         found += 1;
         assert!((2..=8).contains(&palette.colors.len()));
         assert!(palette.colors.is_sorted_by(|a, b| a < b));
-        assert_eq!(palette.map.len(), width * height);
+        assert_eq!(palette.map.len(), drawn.samples.len());
         assert_eq!(palette.flags.len(), palette.lines());
-        assert!(!palette.transposed || width.max(height) < 64);
+        assert!(!palette.transposed || drawn.width.max(drawn.height) < 64);
     }
     assert!(found > 200, "only {found} palettes found");
 }

@@ -73,4 +73,36 @@ impl Random {
             })
             .collect()
     }
+
+    /// A block of any sides and depth.
+    pub fn drawn(&mut self) -> Drawn {
+        let (width, height) = (self.between(1, 64), self.between(1, 64));
+        let bd = self.between(8, 12) as u32;
+        let samples = self.samples(width * height, bd);
+        Drawn {
+            samples,
+            width,
+            height,
+            bd,
+        }
+    }
+}
+
+/// A block with its own samples.
+pub struct Drawn {
+    pub samples: Vec<f32>,
+    pub width: usize,
+    pub height: usize,
+    pub bd: u32,
+}
+
+impl Drawn {
+    pub fn block(&self) -> Block<'_> {
+        Block {
+            samples: &self.samples,
+            width: self.width,
+            height: self.height,
+            bd: self.bd,
+        }
+    }
 }
