@@ -32,7 +32,7 @@ use Rattle.map_search.specs.Sound.{Sound}
 use Rattle.map_search.specs.declared.Scan.{Scan}
 use Rattle.map_search.specs.declared.Choice.{Choice}
 use Rattle.map_search.specs.declared.MapResult.{MapResult}
-use Rattle.map_search.specs.declared.MapResult.the-variants.{Found}
+use Rattle.map_search.specs.declared.MapResult.the-variants.{Found, Beaten}
 use Rattle.map_search.proofs.Laws.{eight-at, at-edge, cells-below, line-plain, put-below}
 
 -- ---- sums of k values, each at most 2 ^ j
@@ -212,6 +212,47 @@ module _ (samples costs colours : List Float) (n : ℕ) (lambda : Float) (s : Sc
         let c' : Within (u .cost .rate) (suc l * 2 ^ 12) = more-within _ _ l 12 (omega (arith, S .few)) (lit≤ tt) c (v .1) in
         rw (not-reached (suc l) u (omega (arith, S .few)) a' c')
         (rest-found k (l + 1) u (omega arith) (omega (arith, w .0)) (put-below samples costs colours n lambda s (t .map) l (t .ctx) _ (omega arith) h (w .1) b) (rw add-one a') (rw add-one c'))
+
+    -- whatever the bound: a found map's error and bits are finite
+    module _ (bound : Float) where
+      rest-in : (k l : ℕ) (t : Walk) (e b : Float) → l + k ≡ s .lines → t .ctx ≤ 3 → Below (t .map) n
+          → Within (t .cost .dist) (l * 2 ^ 32) → Within (t .cost .rate) (l * 2 ^ 12)
+          → restOf samples costs colours n lambda s head bound k l t .result ≡ Found e b
+          → Within e (s .lines * 2 ^ 32) × Within b (s .lines * 2 ^ 12)
+      unfolding restOf
+      rest-in zero l t e b i q m a c f =
+          let d : l ≡ s .lines = omega arith in
+          let x : t .cost .dist ≡ e = cc in
+          let y : t .cost .rate ≡ b = cc in (
+            subst (λ z. Within z (s .lines * 2 ^ 32)) x (subst (λ (z : ℕ). Within (t .cost .dist) (z * 2 ^ 32)) d a),
+            subst (λ z. Within z (s .lines * 2 ^ 12)) y (subst (λ (z : ℕ). Within (t .cost .rate) (z * 2 ^ 12)) d c),
+          )
+      rest-in (suc k) l t e b i q m a c f =
+          let z : l < s .lines = omega arith in
+          let v = line-mean (t .map) l (t .ctx) m z q in
+          let w = line-plain samples costs colours n lambda s (t .map) l (t .ctx) (omega arith) in
+          let u = next samples costs colours n lambda s t l in
+          let a' : Within (u .cost .dist) (suc l * 2 ^ 32) = more-within _ _ l 32 (omega (arith, S .few)) (lit≤ tt) a (v .0) in
+          let c' : Within (u .cost .rate) (suc l * 2 ^ 12) = more-within _ _ l 12 (omega (arith, S .few)) (lit≤ tt) c (v .1) in
+          let deeper = rest-in k (l + 1) u e b (omega arith) (omega (arith, w .0))
+          (put-below samples costs colours n lambda s (t .map) l (t .ctx) _ (omega arith) h (w .1) m) (rw add-one a') (rw add-one c') in
+          go (reached samples costs colours n lambda s head bound u) deeper f
+        where
+          go : (r : Bool)
+              → (restOf samples costs colours n lambda s head bound k (l + 1) (next samples costs colours n lambda s t l) .result ≡ Found e b
+              → Within e (s .lines * 2 ^ 32) × Within b (s .lines * 2 ^ 12))
+              → cond r (record { map = next samples costs colours n lambda s t l .map; flags = next samples costs colours n lambda s t l .flags; result = Beaten })
+              (restOf samples costs colours n lambda s head bound k (l + 1) (next samples costs colours n lambda s t l)) .result ≡ Found e b
+              → Within e (s .lines * 2 ^ 32) × Within b (s .lines * 2 ^ 12)
+          go true deeper f = let x : _≡_ {A = ℕ} 0 1 = cc in absurd (omega arith)
+          go false deeper f = deeper f
+
+      pub found-in : (map flags : List ℕ) (e b : Float) → Below map n
+          → mapOf samples costs colours n lambda s head bound map flags .result ≡ Found e b
+          → Within e (s .lines * 2 ^ 32) × Within b (s .lines * 2 ^ 12)
+      unfolding ofBits
+      found-in map flags e b m f =
+          rest-in (s .lines) 0 _ e b (omega arith) (omega arith) m (zero-le, inl refl) (zero-le, inl refl) f
 
     -- an infinite bound is never reached
     pub always-found : (map flags : List ℕ) → Below map n → IsFound (mapOf samples costs colours n lambda s head (inf false) map flags .result)

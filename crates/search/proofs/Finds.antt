@@ -22,7 +22,7 @@ use Rattle.groups.proofs.Each.{Each}
 use Rattle.map_search.specs.Lines.{scanOf, mapOf, Ended}
 use Rattle.map_search.specs.declared.MapResult.{MapResult}
 use Rattle.map_search.specs.declared.MapResult.the-variants.{Found, Beaten}
-use Rattle.map_search.proofs.Bound.{always-found}
+use Rattle.map_search.proofs.Bound.{always-found, found-in}
 use Rattle.map_search.proofs.Scans.{scan-sound}
 use Rattle.sizes.specs.declared.Block.{Block}
 use Rattle.sizes.specs.Sizes.{sentFor, headOf, sizeOf}
@@ -160,6 +160,26 @@ module _ (samples costs : List Float) (b : Block) (h : Histogram) where
         (f .error-in .0) lambda low (f .bits-in .0) in
         judged-first k false (inf false) has (λ t. absurd (false≢true t)) (f .error) (f .bits) (1025 * 2 ^ 29) total
         (f .is) _ (f .is)
+
+    -- no total is infinite or NaN: of any size that the block has, in either orientation, under any bound
+    pub total-finite : (k : ℕ) → SizeTo (h .n) k → (t : Bool) (bound error bits : Float)
+        → let scan = scanOf (b .width) (b .height) t in
+        mapOf samples costs (map (nat binary32) (groupsOf h k .colors)) k (b .lambda) scan (headOf costs b (centersOf h k)) bound
+        (replicate (b .width * b .height) 0) (replicate (scan .lines) 0) .result ≡ Found error bits
+        → Under (add binary32 error (mul binary32 (b .lambda) (add binary32 (headOf costs b (centersOf h k)) bits))) (1025 * 2 ^ 29)
+    total-finite k has t bound error bits f =
+        let cells = b .width * b .height in
+        let scan = scanOf (b .width) (b .height) t in
+        let sound = scan-sound (b .width) (b .height) t (r .wide) (r .wideMost) (r .high) (r .highMost) in
+        let lambda = lambda-within (b .lambda) (r .weight) .0 in
+        let low = head-under samples costs b rooms lines r h e few k (has .0) (has .1) (has .2) in
+        let in-bounds = found-in samples costs (map (nat binary32) (groupsOf h k .colors)) k (b .lambda) scan cells sound (has .0) (has .1)
+        (λ i l. sample-within-4095 (b .bd) samples (r .deepMost) (r .sampled) i (omega (arith, r .count)))
+        (color-within samples costs b rooms lines r h e few k (has .0) (has .1) (has .2))
+        (costs-within costs (r .priced)) (headOf costs b (centersOf h k)) lambda low bound (replicate cells 0) (replicate (scan .lines) 0)
+        error bits (λ i. zeros-below cells k i (omega (arith, has .0))) f in
+        total-under error (b .lambda) (headOf costs b (centersOf h k)) bits (scan .lines) (sound .few) (in-bounds .0 .0) lambda low
+        (in-bounds .1 .0)
 
     -- what stands after all sizes is a found map
     pub finds : Kept samples costs b h (searched samples costs b h)
