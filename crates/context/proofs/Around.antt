@@ -70,12 +70,16 @@ choose-ctx false true e l t d = omega arith
 choose-ctx false false true l t d = omega arith
 choose-ctx false false false l t d = omega arith
 
+pub three-ctx : (l t d : ℕ) → byThree l t d .ctx < 5
+unfolding byThree
+three-ctx l t d = choose-ctx (eqb l t) (eqb l d) (eqb d t) l t d
+
 pub around-ctx : (map : List ℕ) (s y x : ℕ) → around byThree map s y x .ctx < 5
-unfolding around byThree
+unfolding around
 around-ctx map s zero zero = omega arith
 around-ctx map s zero (suc x) = omega arith
 around-ctx map s (suc y) zero = omega arith
-around-ctx map s (suc y) (suc x) = choose-ctx _ _ _ _ _ _
+around-ctx map s (suc y) (suc x) = three-ctx _ _ _
 
 -- where the cells before the place are below n
 pub around-ok : (map : List ℕ) (s y x n : ℕ) → x < s → ((p : ℕ) → p < y * s + x → getD map p 0 < n)

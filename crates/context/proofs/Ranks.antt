@@ -62,6 +62,16 @@ unfolding below
 others-below [] i d = omega (arith, all-length i)
 others-below (x ∷ xs) i d = omega (arith, fewer x xs i (d .0), others-below xs i (d .1))
 
+-- how large a rank is at most
+from-few : (i at low : ℕ) (xs : List ℕ) → rankFrom i at low xs ≤ at + length xs + i
+unfolding rankFrom
+from-few i at low [] = omega arith
+from-few i at low (x ∷ xs) =
+    let deeper = from-few i (at + 1) (low + bit (ltb x i)) xs in
+    let go : (b : Bool) → cond b at (rankFrom i (at + 1) (low + bit (ltb x i)) xs) ≤ at + suc (length xs) + i =
+    elim [ true ↦ omega arith | false ↦ omega (arith, deeper) ] in
+    go (eqb i x)
+
 -- `rankFrom`, by place and by count
 from-front : (i at low : ℕ) (xs : List ℕ) → elem i xs ≡ true → rankFrom i at low xs ≡ at + place i xs
 unfolding rankFrom elem place
@@ -186,6 +196,18 @@ pub ctx-by-equal : (l t d : ℕ)
     → 1 + bit ((eqb l t || eqb l d) || eqb d t) + bit (eqb l t) + bit (eqb l t && eqb l d) ≡ byThree l t d .ctx
 unfolding byThree
 ctx-by-equal l t d = ctx-by (eqb l t) (eqb l d) (eqb d t) l t d
+
+three-few : (b c e : Bool) (l t d : ℕ) → length (choose b c e l t d .firsts) ≤ 3
+unfolding choose
+three-few true true e l t d = omega arith
+three-few true false e l t d = omega arith
+three-few false true e l t d = omega arith
+three-few false false true l t d = omega arith
+three-few false false false l t d = omega arith
+
+pub rank-few : (i l t d : ℕ) → rankFrom i 0 0 (byThree l t d .firsts) ≤ i + 3
+unfolding byThree
+rank-few i l t d = omega (arith, from-few i 0 0 (byThree l t d .firsts), three-few (eqb l t) (eqb l d) (eqb d t) l t d)
 
 pub three-same : (v : ℕ) → byThree v v v .firsts ≡ v ∷ []
 unfolding byThree choose

@@ -3,14 +3,14 @@
 ghost use mathlib.Core.Path.{_≡_};
 ghost use mathlib.Core.Bool.{not, cond};
 ghost use mathlib.Core.List.{_∷_, []};
-ghost use Prim.Native.Nat.{_+_, _*_, _≤_, _<_, min};
-ghost use lib.ListN.{length, replicate};
+ghost use Prim.Native.Nat.{ℕ, _+_, _*_, _≤_, _<_, min};
+ghost use lib.ListN.{length, getD, replicate};
 ghost use lib.Dec.{eqb};
 ghost use Rattle.lists.specs.Counted.{elem, bit};
 ghost use Rattle.context.specs.Map.{linesOf, lengthOf};
-ghost use Rattle.context.specs.Order.{byThree, around};
+ghost use Rattle.context.specs.Order.{byThree};
 ghost use Rattle.context.specs.Context.{answered, refused, contextOf};
-ghost use Rattle.context.specs.Ranks.{rankFrom};
+ghost use Rattle.context.specs.Ranks.{rankFrom, codeBy, Coded};
 ghost use Rattle.context.specs.Parts.{held, neighbourAt, oneAt, threeAt};
 
 // An index: the place of a colour in the palette, as the map holds it.
@@ -223,12 +223,6 @@ pub fn color_ctx(map: &[u8], stride: usize, y: usize, x: usize, n: usize) -> Con
     from_three(map, left, left + 1 - stride, left - stride, m)
 }
 
-// A cell's context, and the rank of its index there.
-pub struct Ranked {
-    pub ctx: usize,
-    pub rank: Rank,
-}
-
 // The rank of an index that equals the left, top or diagonal neighbour first, or none of them.
 struct Choices {
     pub left: u8,
@@ -244,15 +238,15 @@ fn bit_of(test: bool) -> u8
 }
 
 // The context of three neighbours, by counting which are equal.
-fn ctx_of(left: Index, top: Index, diag: Index) -> usize
-    ensures { λ r. ⌜ r ≡ byThree (left .0) (top .0) (diag .0) .ctx ⌝ }
+fn ctx_of(left: Index, top: Index, diag: Index) -> u8
+    ensures { λ r. ⌜ (r ≡ byThree (left .0) (top .0) (diag .0) .ctx) × (r ≤ 4) ⌝ }
 {
     let l = left.0;
     let t = top.0;
     let d = diag.0;
     let some = (l == t) | (l == d) | (d == t);
     let all = (l == t) & (l == d);
-    (1 + bit_of(some) + bit_of(l == t) + bit_of(all)) as usize
+    1 + bit_of(some) + bit_of(l == t) + bit_of(all)
 }
 
 // Where index i stands: by the first of three neighbours that it equals, else at `rest`.
@@ -292,35 +286,37 @@ fn rank_of(left: Index, top: Index, diag: Index, index: Index) -> Rank
     first_of(i, l, t, d, ranks)
 }
 
-// One neighbour has the ranks of three equal ones, and context 0.
-fn ranked_by_one(near: Index, index: Index) -> Ranked
+// One neighbour has the ranks of three equal ones.
+pub fn rank_by_one(near: Index, index: Index) -> Rank
     requires { ⌜ index .0 < 8 ⌝ }
-    ensures { λ r. ⌜ (r .ctx ≡ 0) × (r .rank .0 ≡ rankFrom (index .0) 0 0 (near .0 ∷ [])) ⌝ }
+    ensures { λ r. ⌜ r .0 ≡ rankFrom (index .0) 0 0 (near .0 ∷ []) ⌝ }
 {
-    Ranked {
-        ctx: 0,
-        rank: rank_of(near, near, near, index),
-    }
+    rank_of(near, near, near, index)
 }
 
-// The context of a cell that stands in the map, and the rank of an index there, whatever the number of indices above it.
-pub fn rank_at(map: &[u8], w: usize, y: usize, x: usize, index: Index) -> Ranked
-    requires { ⌜ (0 < y + x) × (x < w) × (y * w + x < length (now map)) × (index .0 < 8) ⌝ }
-    ensures { λ r. ⌜ r .ctx ≡ around byThree (now (map .entry)) w y x .ctx ⌝ }
-    ensures { λ r. ⌜ r .rank .0 ≡ rankFrom (index .0) 0 0 (around byThree (now (map .entry)) w y x .firsts) ⌝ }
+// A cell in one byte: eight times the context of three neighbours, and the rank of its index there.
+fn code_of(left: Index, top: Index, diag: Index, index: Index) -> u8
+    requires { ⌜ index .0 < 8 ⌝ }
+    ensures { λ r. ⌜ r ≡ codeBy (left .0) (top .0) (diag .0) (index .0) ⌝ }
 {
-    let p = y * w + x;
-    if y == 0 {
-        return ranked_by_one(Index(map[p - 1]), index);
-    }
-    if x == 0 {
-        return ranked_by_one(Index(map[p - w]), index);
-    }
-    let left = Index(map[p - 1]);
-    let top = Index(map[p - w]);
-    let diag = Index(map[p - w - 1]);
-    Ranked {
-        ctx: ctx_of(left, top, diag),
-        rank: rank_of(left, top, diag, index),
+    let ctx = ctx_of(left, top, diag);
+    let rank = rank_of(left, top, diag, index);
+    ctx * 8 + rank.0
+}
+
+// The codes of all cells with three neighbours. The loop goes through all rows, so that many cells are told at once; what it
+// tells of a row's first cell is of no use.
+pub fn code_cells(map: &[u8], w: usize, codes: &mut [u8])
+    requires { ⌜ (w ≤ 64) × (length (now map) ≤ length (now codes)) ⌝ }
+    requires { ⌜ ((i : ℕ) → i < length (now map) → getD (now map) i 0 < 8) ⌝ }
+    ensures { λ r. ⌜ Coded (now (map .entry)) w (now (codes .exit)) ⌝ }
+{
+    let mut p = w + 1;
+    while p < map.len() {
+        let left = Index(map[p - 1]);
+        let top = Index(map[p - w]);
+        let diag = Index(map[p - w - 1]);
+        codes[p] = code_of(left, top, diag, Index(map[p]));
+        p += 1;
     }
 }

@@ -5,12 +5,13 @@ use context::Level;
 ghost use mathlib.Core.Path.{_≡_};
 ghost use mathlib.Core.Bool.{true};
 ghost use mathlib.Core.List.{[], _∷_};
-ghost use Prim.Native.Nat.{ℕ, _+_, _*_, _≤_, _<_};
+ghost use Prim.Native.Nat.{ℕ, _+_, _-_, _*_, _/_, _%_, _≤_, _<_};
 ghost use lib.ListN.{length, take, getD};
 ghost use Rattle.lists.specs.Counted.{bit, ascending, upTo};
 ghost use Rattle.lists.specs.Written.{written};
-ghost use Rattle.context.specs.Map.{cell, rowAt, colAt, linesOf, lengthOf};
-ghost use Rattle.context.specs.Order.{byThree, around};
+ghost use Rattle.context.specs.Map.{rowAt, colAt, linesOf, lengthOf};
+ghost use Rattle.context.specs.Order.{byThree};
+ghost use Rattle.context.specs.Ranks.{Coded};
 ghost use Rattle.literals.specs.Words.{word};
 ghost use Rattle.literals.specs.Literals.{levelsOk};
 ghost use Rattle.emit.specs.Colors.{remove, cacheWords, untaken, colorWords};
@@ -111,49 +112,70 @@ fn index_at(map: &[u8], place: usize) -> Index
     Index(map[place])
 }
 
-// The word of a cell by the rank of its index.
-fn ranked_word(map: &[u8], w: usize, n: usize, y: usize, x: usize) -> u32
-    requires { ⌜ (2 ≤ n) × (n ≤ 8) × (0 < y + x) × (x < w) × (y * w + x < length (now map)) ⌝ }
+// The word of a cell with one neighbour: context 0.
+fn edge_word(map: &[u8], n: usize, near: usize, place: usize) -> u32
+    requires { ⌜ (2 ≤ n) × (n ≤ 8) × (near < length (now map)) × (place < length (now map)) ⌝ }
     requires { ⌜ ((i : ℕ) → i < length (now map) → getD (now map) i 0 < n) ⌝ }
-    ensures { λ r. ⌜ r ≡ rankedWord 5 (around byThree (now (map .entry)) w y x) n (cell (now (map .entry)) w y x) ⌝ }
+    ensures { λ r. ⌜ r ≡ rankedWord 5 (record { ctx = 0; firsts = getD (now (map .entry)) near 0 ∷ [] }) n (getD (now (map .entry)) place 0) ⌝ }
 {
-    let index = index_at(map, y * w + x);
-    let found = context::rank_at(map, w, y, x, index);
-    let rank = found.rank;
-    literals::call(5, ((n - 2) * 5 + found.ctx) as u32, rank.0 as u32)
+    let index = index_at(map, place);
+    let rank = context::rank_by_one(index_at(map, near), index);
+    literals::call(5, ((n - 2) * 5) as u32, rank.0 as u32)
+}
+
+// The word of a cell by its code.
+fn coded_word(codes: &[u8], n: usize, place: usize) -> u32
+    requires { ⌜ (2 ≤ n) × (n ≤ 8) × (place < length (now codes)) × (getD (now codes) place 0 < 40) ⌝ }
+    ensures { λ r. ⌜ r ≡ word 5 ((n - 2) * 5 + getD (now (codes .entry)) place 0 / 8) (getD (now (codes .entry)) place 0 % 8) ⌝ }
+{
+    let code = codes[place] as u32;
+    literals::call(5, ((n - 2) * 5) as u32 + code / 8, code % 8)
 }
 
 // The word of the cell at row y, column x.
-fn cell_word(map: &[u8], w: usize, n: usize, y: usize, x: usize) -> u32
-    requires { ⌜ (2 ≤ n) × (n ≤ 8) × (x < w) × (y * w + x < length (now map)) ⌝ }
+fn cell_word(map: &[u8], codes: &[u8], w: usize, n: usize, y: usize, x: usize) -> u32
+    requires { ⌜ (2 ≤ n) × (n ≤ 8) × (x < w) × (y * w + x < length (now map)) × (Coded (now map) w (now codes)) ⌝ }
     requires { ⌜ ((i : ℕ) → i < length (now map) → getD (now map) i 0 < n) ⌝ }
     ensures { λ r. ⌜ r ≡ cellWord 5 byThree n (now (map .entry)) w y x ⌝ }
 {
+    let place = y * w + x;
     if 0 < y {
-        return ranked_word(map, w, n, y, x);
+        if 0 < x {
+            return coded_word(codes, n, place);
+        }
+        return edge_word(map, n, place - w, place);
     }
     if 0 < x {
-        return ranked_word(map, w, n, y, x);
+        return edge_word(map, n, place - 1, place);
     }
-    let i = index_at(map, 0);
+    let i = index_at(map, place);
     literals::call(2, n as u32, i.0 as u32)
 }
 
 // The word of place a of line l: lines are rows, or columns when transposed.
-fn line_word(map: &[u8], w: usize, n: usize, transposed: bool, l: usize, a: usize) -> u32
-    requires { ⌜ (2 ≤ n) × (n ≤ 8) × (colAt transposed l a < w) × (rowAt transposed l a * w + colAt transposed l a < length (now map)) ⌝ }
+fn line_word(
+    map: &[u8],
+    codes: &[u8],
+    w: usize,
+    n: usize,
+    transposed: bool,
+    l: usize,
+    a: usize,
+) -> u32
+    requires { ⌜ (2 ≤ n) × (n ≤ 8) × (colAt transposed l a < w) × (rowAt transposed l a * w + colAt transposed l a < length (now map)) × (Coded (now map) w (now codes)) ⌝ }
     requires { ⌜ ((i : ℕ) → i < length (now map) → getD (now map) i 0 < n) ⌝ }
     ensures { λ r. ⌜ r ≡ lineWord n transposed (now (map .entry)) w l a ⌝ }
 {
     if transposed {
-        return cell_word(map, w, n, a, l);
+        return cell_word(map, codes, w, n, a, l);
     }
-    cell_word(map, w, n, l, a)
+    cell_word(map, codes, w, n, l, a)
 }
 
 // The words of the first `count` cells of line l.
 fn emit_cells(
     map: &[u8],
+    codes: &[u8],
     w: usize,
     n: usize,
     transposed: bool,
@@ -162,7 +184,7 @@ fn emit_cells(
     out: &mut [u32],
     at: usize,
 ) -> usize
-    requires { ⌜ LinesInside (now map) w n transposed (l + 1) count ⌝ }
+    requires { ⌜ (LinesInside (now map) w n transposed (l + 1) count) × (Coded (now map) w (now codes)) ⌝ }
     requires { ⌜ at + count ≤ length (now out) ⌝ }
     ensures { λ r. ⌜ r ≡ at + count ⌝ }
     ensures { λ r. ⌜ now (out .exit) ≡ written (now (out .entry)) at (upTo (λ a. lineWord n transposed (now (map .entry)) w l a ∷ []) count) ⌝ }
@@ -170,7 +192,7 @@ fn emit_cells(
     let mut pos = at;
     let mut a: usize = 0;
     while a < count {
-        pos = literals::put(out, pos, line_word(map, w, n, transposed, l, a));
+        pos = literals::put(out, pos, line_word(map, codes, w, n, transposed, l, a));
         a += 1;
     }
     pos
@@ -198,6 +220,7 @@ fn wide(flag: u8) -> u32
 // The words of line l: its flag under a context, then the cells that it sends.
 fn emit_line(
     map: &[u8],
+    codes: &[u8],
     w: usize,
     n: usize,
     transposed: bool,
@@ -208,19 +231,20 @@ fn emit_line(
     out: &mut [u32],
     at: usize,
 ) -> usize
-    requires { ⌜ LinesInside (now map) w n transposed (l + 1) (sentCells flag len) ⌝ }
+    requires { ⌜ (LinesInside (now map) w n transposed (l + 1) (sentCells flag len)) × (Coded (now map) w (now codes)) ⌝ }
     requires { ⌜ (context < 256) × (at + 1 + sentCells flag len ≤ length (now out)) ⌝ }
     ensures { λ r. ⌜ r ≡ at + 1 + sentCells flag len ⌝ }
     ensures { λ r. ⌜ now (out .exit) ≡ written (now (out .entry)) at (word 4 context flag ∷ upTo (λ a. lineWord n transposed (now (map .entry)) w l a ∷ []) (sentCells flag len)) ⌝ }
 {
     let next = literals::put(out, at, literals::call(4, context, wide(flag)));
     let count = sent_cells(flag, len);
-    emit_cells(map, w, n, transposed, l, count, out, next)
+    emit_cells(map, codes, w, n, transposed, l, count, out, next)
 }
 
 // The words of all lines. The first has context 3, each other the flag before.
 fn emit_lines(
     map: &[u8],
+    codes: &[u8],
     flags: &[u8],
     w: usize,
     n: usize,
@@ -230,7 +254,7 @@ fn emit_lines(
     out: &mut [u32],
     at: usize,
 ) -> usize
-    requires { ⌜ (LinesInside (now map) w n transposed lines len) × (1 ≤ len) × (lines ≤ length (now flags)) ⌝ }
+    requires { ⌜ (LinesInside (now map) w n transposed lines len) × (1 ≤ len) × (lines ≤ length (now flags)) × (Coded (now map) w (now codes)) ⌝ }
     requires { ⌜ at + length (upTo (lineWords n transposed (now flags) (now map) w len) lines) ≤ length (now out) ⌝ }
     ensures { λ r. ⌜ r ≡ at + length (upTo (lineWords n transposed (now (flags .entry)) (now (map .entry)) w len) lines) ⌝ }
     ensures { λ r. ⌜ now (out .exit) ≡ written (now (out .entry)) at (upTo (lineWords n transposed (now (flags .entry)) (now (map .entry)) w len) lines) ⌝ }
@@ -240,7 +264,19 @@ fn emit_lines(
     let mut l: usize = 0;
     while l < lines {
         let flag = flags[l];
-        pos = emit_line(map, w, n, transposed, len, l, context, flag, out, pos);
+        pos = emit_line(
+            map,
+            codes,
+            w,
+            n,
+            transposed,
+            len,
+            l,
+            context,
+            flag,
+            out,
+            pos,
+        );
         context = wide(flag);
         l += 1;
     }
@@ -262,6 +298,31 @@ fn emit_orientation(transposed: bool, w: usize, h: usize, out: &mut [u32], at: u
     literals::put_bypass(out, at, 1, bit_of(transposed))
 }
 
+// As `emit_map`. The codes are told in `codes` first, of all cells at once.
+fn emit_coded(
+    map: &[u8],
+    flags: &[u8],
+    w: usize,
+    h: usize,
+    n: usize,
+    transposed: bool,
+    codes: &mut [u8],
+    out: &mut [u32],
+    at: usize,
+) -> usize
+    requires { ⌜ (LinesInside (now map) w n transposed (linesOf transposed w h) (lengthOf transposed w h)) × (w ≤ 64) × (length (now map) ≤ length (now codes)) ⌝ }
+    requires { ⌜ (1 ≤ lengthOf transposed w h) × (linesOf transposed w h ≤ length (now flags)) ⌝ }
+    requires { ⌜ at + length (mapWords n transposed (now flags) (now map) w h) ≤ length (now out) ⌝ }
+    ensures { λ r. ⌜ r ≡ at + length (mapWords n transposed (now (flags .entry)) (now (map .entry)) w h) ⌝ }
+    ensures { λ r. ⌜ now (out .exit) ≡ written (now (out .entry)) at (mapWords n transposed (now (flags .entry)) (now (map .entry)) w h) ⌝ }
+{
+    context::code_cells(map, w, codes);
+    let next = emit_orientation(transposed, w, h, out, at);
+    let lines = context::lines_of(transposed, w, h);
+    let len = context::length_of(transposed, w, h);
+    emit_lines(map, codes, flags, w, n, transposed, lines, len, out, next)
+}
+
 // The words of the index map.
 pub fn emit_map(
     map: &[u8],
@@ -273,14 +334,12 @@ pub fn emit_map(
     out: &mut [u32],
     at: usize,
 ) -> usize
-    requires { ⌜ LinesInside (now map) w n transposed (linesOf transposed w h) (lengthOf transposed w h) ⌝ }
+    requires { ⌜ (LinesInside (now map) w n transposed (linesOf transposed w h) (lengthOf transposed w h)) × (w ≤ 64) × (length (now map) ≤ 4096) ⌝ }
     requires { ⌜ (1 ≤ lengthOf transposed w h) × (linesOf transposed w h ≤ length (now flags)) ⌝ }
     requires { ⌜ at + length (mapWords n transposed (now flags) (now map) w h) ≤ length (now out) ⌝ }
     ensures { λ r. ⌜ r ≡ at + length (mapWords n transposed (now (flags .entry)) (now (map .entry)) w h) ⌝ }
     ensures { λ r. ⌜ now (out .exit) ≡ written (now (out .entry)) at (mapWords n transposed (now (flags .entry)) (now (map .entry)) w h) ⌝ }
 {
-    let next = emit_orientation(transposed, w, h, out, at);
-    let lines = context::lines_of(transposed, w, h);
-    let len = context::length_of(transposed, w, h);
-    emit_lines(map, flags, w, n, transposed, lines, len, out, next)
+    let mut codes = [0u8; 4096];
+    emit_coded(map, flags, w, h, n, transposed, &mut codes, out, at)
 }

@@ -1,4 +1,5 @@
 use Rattle.context.proofs.Ranks.{ctx-by-equal}
+use native.Mathlib.Omega.{arith}
 use borrow.Author.Needs.{needs}
 use Rattle.context.proofs.ctx_of.Statement.{statement}
 use Rattle.context.proofs.ctx_of.Tie as tie
@@ -21,13 +22,12 @@ bit-of-requires-3 c κs = search needs
 add-result-3 : tie.Need-add-result-3
 add-result-3 c = search needs
 
-cast-result : tie.Need-cast-result
-cast-result c = search needs
-
 returns : tie.Need-returns
 returns c =
-    rw (c .before .before .bit-of .ensures .0, c .before .bit-of2 .ensures .0, c .bit-of3 .ensures .0)
-    (ctx-by-equal _ _ _)
+    let some = c .before .before .bit-of .ensures in
+    let two = c .before .bit-of2 .ensures in
+    let all = c .bit-of3 .ensures in
+    (rw (some .0, two .0, all .0) (ctx-by-equal _ _ _), omega (arith, some .1, two .1, all .1))
 
 pub ctx-of-spec : {M : Type 1} → statement M
 ctx-of-spec =
@@ -39,5 +39,4 @@ ctx-of-spec =
     add-result-2
     bit-of-requires-3
     add-result-3
-    cast-result
     returns)

@@ -12,12 +12,12 @@ use Rattle.emit.proofs.emit_cells.Statement.{statement}
 use Rattle.emit.proofs.emit_cells.Tie as tie
 
 abbrev Inv-loop : tie.InvT-loop
-Inv-loop map w n transposed l count out₀ at pos₀ a₀ out pos a =
+Inv-loop map codes w n transposed l count out₀ at pos₀ a₀ out pos a =
     (a ≤ count) × (pos ≡ at + a) × (length out ≡ length out₀)
     × (out ≡ written out₀ at (upTo (λ a. lineWord n transposed map w l a ∷ []) a))
 
 abbrev μ-loop : tie.MeasureT-loop
-μ-loop map w n transposed l count out₀ at pos₀ a₀ out pos a = count - a
+μ-loop map codes w n transposed l count out₀ at pos₀ a₀ out pos a = count - a
 
 loop-holds : tie.Need-loop-holds Inv-loop μ-loop
 unfolding upTo written
@@ -25,10 +25,11 @@ loop-holds c = (search needs, search needs, refl, refl)
 
 line-word-requires : tie.Need-line-word-requires Inv-loop μ-loop
 line-word-requires c κs =
-    let i = c .before .before .before .before .before .pre .0 in
+    let s = c .before .before .before .before .before .before in
+    let i = s .pre .0 .0 in
     let a = c .before .before .loop .a in
-    let l = c .before .before .before .before .before .args .l in
-    ((i .two, i .eight, i .column l a (omega arith) (omega arith), i .place l a (omega arith) (omega arith)), i .below)
+    let l = s .args .l in
+    ((i .two, i .eight, i .column l a (omega arith) (omega arith), i .place l a (omega arith) (omega arith), s .pre .0 .1), i .below)
 
 put-requires : tie.Need-put-requires Inv-loop μ-loop
 put-requires c κs =
@@ -44,7 +45,7 @@ loop-less c = search needs
 
 loop-again : tie.Need-loop-again Inv-loop μ-loop
 loop-again c =
-    let s = c .before .before .before .before .before .before .before .before .before .args in
+    let s = c .before .before .before .before .before .before .before .before .before .before .args in
     let l = c .before .before .before .before .before .before .loop in
     let p = c .before .before .put in
     let word = lineWord (s .n) (s .transposed) (s .map .now) (s .w) (s .l) in (
@@ -60,7 +61,7 @@ same-length c = search needs
 returns : tie.Need-returns Inv-loop μ-loop
 returns c =
     let l = c .before .loop in
-    let e : l .a ≡ c .before .before .before .before .args .count = omega arith in
+    let e : l .a ≡ c .before .before .before .before .before .args .count = omega arith in
     (l .inv .1 ∙ rw e refl, l .inv .3 ∙ rw e refl)
 
 pub emit-cells-spec : {M : Type 1} → statement M

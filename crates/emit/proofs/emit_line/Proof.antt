@@ -21,10 +21,12 @@ sent-cells-requires : tie.Need-sent-cells-requires
 sent-cells-requires c κs = search needs
 
 emit-cells-requires : tie.Need-emit-cells-requires
-emit-cells-requires c κs = let k = c .before .sent-cells in
+emit-cells-requires c κs =
+    let s = c .before .before .before .before .before .before .before .before .before .before .before in
+    let k = c .before .sent-cells in
     let p = c .before .before .before .before .put in
-    let h : p .result + k .result ≤ length (p .last .0) = omega (arith, k .ensures, p .ensures .0, p .kept .0, c .before .before .before .before .before .before .before .before .before .before .pre .1 .1) in
-    (rw (k .ensures) (c .before .before .before .before .before .before .before .before .before .before .pre .0), h)
+    let h : p .result + k .result ≤ length (p .last .0) = omega (arith, k .ensures, p .ensures .0, p .kept .0, s .pre .1 .1) in
+    ((rw (k .ensures) (s .pre .0 .0), s .pre .0 .1), h)
 
 same-length : tie.Need-same-length
 same-length c = search needs

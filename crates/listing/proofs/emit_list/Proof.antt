@@ -2,6 +2,7 @@ use Prim.Native.Nat.{ℕ, _+_, _≤_}
 use mathlib.Core.Path.{_≡_, refl, ap, _∙_}
 use mathlib.Core.Bool.{_&&_}
 use mathlib.Core.List.{List, _++_}
+use native.Mathlib.Nat.{mul-le-mul}
 use native.Mathlib.Omega.{arith}
 use lib.Dec.{ltb}
 use lib.ListN.{length, take, length-append}
@@ -77,6 +78,9 @@ module _ (s : tie.Start) where
         below = λ i p. rw count at (f .index i (omega (arith, f .mapLength)));
       }
 
+  cells-few : length (s .args .map .now) ≤ 4096
+  cells-few = let f = known in omega (arith, f .mapLength, mul-le-mul (f .wideMost) (f .highMost))
+
   raw : rawWidth list ≡ rawWidth colors + (bit (ltb (s .args .width) 64 && ltb (s .args .height) 64) + ceilLog2 (s .args .n))
   raw =
       let f = known in
@@ -124,7 +128,7 @@ emit-map-requires c κs =
     let s = start e in
     let h : e .emit-colors .result + length (map s) ≤ length (out e) =
     omega (arith, room s, e .emit-colors .ensures .0, e .emit-colors .kept .1 .1 .1 .1 .0) in
-    (inside s, ((long s, omega (arith, known s .flagLength)), h))
+    ((inside s, known s .wideMost, cells-few s), ((long s, omega (arith, known s .flagLength)), h))
 
 map-raw-width-requires : tie.Need-map-raw-width-requires
 map-raw-width-requires c κs = search needs
