@@ -59,7 +59,7 @@ pub(crate) fn put_pair(bytes: &mut Vec<u8>, value: u16) {
 }
 
 /// Colours in eight places, zeros behind them.
-pub fn eight(colors: &[u16]) -> [u16; 8] {
+fn eight(colors: &[u16]) -> [u16; 8] {
     std::array::from_fn(|at| colors.get(at).copied().unwrap_or(0))
 }
 

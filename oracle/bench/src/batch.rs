@@ -1,10 +1,10 @@
 //! Blocks of a sheet that are timed together, with the buffers that ours writes to.
 
 use crate::sheets::{HEIGHT, WIDTH};
-use palette_compare::station;
-use palette_oracle::answers::SearchAnswer;
-use palette_oracle::check::{none_number, Asked};
-use palette_oracle::{Costs, Found, Palette};
+use palette_compare::due::Due;
+use palette_oracle::check::none_number;
+use palette_oracle::Found;
+use palette_station::{search_into, Costs, PaletteView, Refusal};
 
 /// The depth of all sheets.
 pub const DEPTH: u32 = 8;
@@ -15,13 +15,10 @@ pub struct Block {
     pub samples: Vec<f32>,
 }
 
-/// What ours returned for a block, and where it wrote.
-pub struct Answer {
-    pub number: u32,
-    pub fields: [u32; 10],
-    pub bits: f32,
-    pub map: Vec<u8>,
-    pub flags: Vec<u8>,
+/// Where ours writes a block's map and flags.
+pub struct Room {
+    map: Vec<u8>,
+    flags: Vec<u8>,
 }
 
 /// Lambda and the one table of costs.
@@ -47,70 +44,39 @@ pub fn cut(sheet: &[u8], (x, y): (usize, usize), side: usize) -> Block {
     Block { w, h, samples }
 }
 
-impl Answer {
-    /// An empty answer with room for a block's.
-    pub fn room_for(block: &Block) -> Self {
-        Answer {
-            number: 0,
-            fields: [0; 10],
-            bits: 0.0,
+impl Room {
+    pub fn of(block: &Block) -> Self {
+        Room {
             map: vec![0; block.samples.len()],
             flags: vec![0; block.w.max(block.h)],
         }
     }
-
-    /// The palette as the listing is handed it.
-    pub fn palette(&self, block: &Block) -> Palette {
-        let [n, colors @ .., orientation] = &self.fields;
-        let lines = if *orientation == 1 { block.w } else { block.h };
-        Palette {
-            w: block.w,
-            h: block.h,
-            bd: DEPTH,
-            colors: colors[..*n as usize].iter().map(|&c| c as u16).collect(),
-            transposed: *orientation == 1,
-            flags: self.flags[..lines].to_vec(),
-            map: self.map.clone(),
-        }
-    }
-
-    /// Whether this is what is due, in every place.
-    pub fn is(&self, due: &SearchAnswer) -> bool {
-        let written =
-            due.number != 0 || (self.map == due.map && self.flags.starts_with(&due.flags));
-        (self.number, self.fields) == (due.number, due.fields)
-            && self.bits.to_bits() == due.bits.to_bits()
-            && written
-    }
 }
 
-pub fn search_ours(block: &Block, prices: &Prices, answer: &mut Answer) {
-    let asked = Asked {
-        w: block.w,
-        h: block.h,
-        bd: DEPTH,
-        lambda: prices.lambda,
-        costs: prices.costs,
+pub fn search_ours<'r>(
+    block: &Block,
+    prices: &Prices,
+    room: &'r mut Room,
+) -> Result<PaletteView<'r>, Refusal> {
+    let block = palette_station::Block {
         samples: &block.samples,
-        map_room: answer.map.len(),
-        flag_room: answer.flags.len(),
+        width: block.w,
+        height: block.h,
+        bd: DEPTH,
     };
-    answer.number = station::search(
-        &asked,
-        &mut answer.map,
-        &mut answer.flags,
-        &mut answer.fields,
-        &mut answer.bits,
-    );
+    let (map, flags) = (&mut room.map, &mut room.flags);
+    search_into(&block, prices.lambda, prices.costs, map, flags)
 }
 
 /// The original's answer with the number that document 01 gives the block.
-pub fn due(block: &Block, prices: &Prices) -> SearchAnswer {
-    let number = none_number(&block.samples, block.w, block.h);
-    SearchAnswer::new(number, search_original(block, prices))
+pub fn due(block: &Block, prices: &Prices) -> Due {
+    Due {
+        number: none_number(&block.samples, block.w, block.h),
+        found: search_original(block, prices),
+    }
 }
 
 pub fn search_original(block: &Block, prices: &Prices) -> Option<Found> {
-    let (w, h) = (block.w, block.h);
-    palette_oracle::search(&block.samples, w, h, DEPTH, prices.lambda, prices.costs)
+    let (w, h, costs) = (block.w, block.h, prices.costs.as_table());
+    palette_oracle::search(&block.samples, w, h, DEPTH, prices.lambda, costs)
 }

@@ -6,9 +6,9 @@ mod rounds;
 mod sheets;
 mod table;
 
-use batch::{corners, cut, due, search_ours, Answer, Block, Prices};
+use batch::{corners, cut, due, search_ours, Block, Prices, Room};
 use palette_oracle::generate::costs::logarithms;
-use palette_oracle::Costs;
+use palette_station::Costs;
 use plot::{chart, Bar};
 use rounds::{same_list, time, Timed};
 use sheets::{sheets, Sheet};
@@ -75,7 +75,7 @@ fn read_options() -> Result<Options, String> {
 }
 
 fn run(options: &Options) -> (usize, Vec<Bar>) {
-    let costs = logarithms();
+    let costs = Costs::from_table(*logarithms());
     let (part, passes) = (options.part, options.passes);
     println!("each {part}. block, the least of {passes} passes");
     print_head();
@@ -115,22 +115,21 @@ fn measure(sheet: &Sheet, side: usize, lambda: f32, costs: &Costs, options: &Opt
 
 /// Searches and lists a block by both, untimed. A block on which they differ is not timed.
 fn looked_at(block: Block, prices: &Prices, outcome: &mut Outcome) -> Option<Timed> {
-    let mut answer = Answer::room_for(&block);
-    search_ours(&block, prices, &mut answer);
     let due = due(&block, prices);
     *outcome.numbers.entry(due.number).or_default() += 1;
-    if !answer.is(&due) {
-        outcome.differences += 1;
-        return None;
-    }
-    let palette = (due.number == 0).then(|| answer.palette(&block));
-    if !palette.as_ref().is_none_or(same_list) {
+    let mut room = Room::of(&block);
+    let answer = search_ours(&block, prices, &mut room);
+    let same_search = due.same(&answer).iter().all(|(_, same)| *same);
+    let palette = answer.ok().map(|found| found.to_palette());
+    let both = palette.as_ref().zip(due.found.as_ref());
+    let same_lists = both.is_none_or(|(ours, found)| same_list(ours, &found.palette));
+    if !same_search || !same_lists {
         outcome.differences += 1;
         return None;
     }
     Some(Timed {
         block,
-        answer,
+        room,
         palette,
     })
 }

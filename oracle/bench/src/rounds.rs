@@ -1,13 +1,9 @@
 //! Times a batch: rounds of ours and of the original in turn.
 
-use crate::batch::{search_original, search_ours, Answer, Block, Prices};
+use crate::batch::{search_original, search_ours, Block, Prices, Room};
 use palette_compare::clock::Clock;
-use palette_compare::station;
-use palette_oracle::Palette;
+use palette_station::{list_into, Palette, MAX_WORDS};
 use std::time::Duration;
-
-/// More than the longest list.
-const WORDS: usize = 4240;
 
 /// Times of one or more batches. Blocks with a palette and refused ones are timed apart, since
 /// only the former can be listed.
@@ -44,10 +40,10 @@ impl Times {
     }
 }
 
-/// A block with our answer and, if it has one, its palette.
+/// A block with our buffers for it and, if it has one, its palette.
 pub struct Timed {
     pub block: Block,
-    pub answer: Answer,
+    pub room: Room,
     pub palette: Option<Palette>,
 }
 
@@ -94,7 +90,8 @@ fn chosen(batch: &mut [Timed], found: bool) -> impl Iterator<Item = &mut Timed> 
 fn round_of_ours(batch: &mut [Timed], prices: &Prices, found: bool) -> Duration {
     let start = Clock::start();
     for timed in chosen(batch, found) {
-        search_ours(&timed.block, prices, &mut timed.answer);
+        let answer = search_ours(&timed.block, prices, &mut timed.room);
+        assert_eq!(answer.is_ok(), found, "a search answers as before");
     }
     start.elapsed()
 }
@@ -110,18 +107,18 @@ fn round_of_original(batch: &mut [Timed], prices: &Prices, found: bool) -> Durat
 }
 
 fn round_of_listing(batch: &[Timed]) -> Duration {
-    let (mut words, mut listed) = (vec![0; WORDS], [0; 2]);
+    let mut words = vec![0; MAX_WORDS];
     let start = Clock::start();
     for palette in batch.iter().filter_map(|timed| timed.palette.as_ref()) {
-        let number = station::list(palette, &[], &mut words, &mut listed);
-        assert_eq!(number, 0, "a found palette is accepted");
+        let answer = list_into(&palette.view(), &[], &mut words);
+        assert!(answer.is_ok(), "a found palette is accepted");
     }
     start.elapsed()
 }
 
-/// Whether our list of a palette is the original's.
-pub fn same_list(palette: &Palette) -> bool {
-    let (mut words, mut listed) = (vec![0; WORDS], [0; 2]);
-    let number = station::list(palette, &[], &mut words, &mut listed);
-    number == 0 && words[..listed[0] as usize] == palette_oracle::list(palette, &[])
+/// Whether our list of our palette is the original's list of its own.
+pub fn same_list(ours: &Palette, original: &palette_oracle::Palette) -> bool {
+    let mut words = vec![0; MAX_WORDS];
+    let answer = list_into(&ours.view(), &[], &mut words);
+    answer.is_ok_and(|listing| listing.words == palette_oracle::list(original, &[]))
 }

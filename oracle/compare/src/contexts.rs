@@ -1,36 +1,38 @@
 //! `color_ctx`, with every place of the order.
 
 use crate::drive::{drive, Run};
-use palette_compare::station;
+use palette_compare::due::Same;
 use palette_oracle::check::context_number;
 use palette_oracle::generate::contexts::asked_corner;
 use palette_oracle::Corner;
+use palette_station::{context, Context};
 
 pub fn compare(run: Run) -> Result<bool, String> {
     drive(run, |index, tally| {
         let (corner, kind, damage) = asked_corner(run.seed, index);
-        let (due, expected) = answer(&corner);
-        let mut context = [u32::MAX; 9];
-        let number = station::context(&corner, &mut context);
-        tally.kind("number", format!("{due:2}"));
+        let number = context_number(&corner);
+        tally.kind("number", format!("{number:2}"));
         tally.kind("corner", kind.name());
         if let Some(damage) = damage {
             tally.kind("damage", damage.name());
         }
-        let same = [("number", number == due), ("context", context == expected)];
-        tally.case(index, &same);
+        tally.case(index, &same(&corner, number));
         Ok(())
     })
 }
 
-/// A refusal leaves 0 everywhere.
-fn answer(c: &Corner) -> (u32, [u32; 9]) {
-    let number = context_number(c);
-    let mut fields = [0; 9];
-    if number == 0 {
-        let (context, order) = palette_oracle::context(&c.map, c.stride, c.y, c.x, c.n);
-        fields[0] = context as u32;
-        fields[1..].copy_from_slice(&order.map(u32::from));
+fn same(c: &Corner, number: u32) -> Vec<Same> {
+    match context(&c.map, c.stride, c.y, c.x, c.n) {
+        Ok(ours) if number == 0 => same_context(&ours, c),
+        Ok(_) => vec![("number", false)],
+        Err(refusal) => vec![("number", refusal.number() == number)],
     }
-    (number, fields)
+}
+
+fn same_context(ours: &Context, c: &Corner) -> Vec<Same> {
+    let (value, order) = palette_oracle::context(&c.map, c.stride, c.y, c.x, c.n);
+    vec![
+        ("context", usize::from(ours.value()) == value),
+        ("order", ours.order() == &order[..c.n]),
+    ]
 }

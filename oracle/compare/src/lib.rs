@@ -1,4 +1,4 @@
-//! Our functions and the clock, for the drivers here and for the package `bench`.
+//! What the drivers here and the package `bench` have in common.
 
 pub mod clock;
-pub mod station;
+pub mod due;

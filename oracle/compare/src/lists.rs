@@ -1,11 +1,14 @@
 //! `list` and `pred`, word by word and bit by bit, with what they must leave alone.
 
+use crate::buffer::{same_bits, Buffer};
 use crate::drive::{drive, Run};
 use crate::tally::Tally;
 use palette_compare::clock::Clock;
-use palette_compare::station;
+use palette_compare::due::Same;
 use palette_oracle::answers::{list_answer, pred_answer, ListAnswer, PredAnswer};
 use palette_oracle::generate::requests::{request, Request, RequestKinds};
+use palette_oracle::Palette;
+use palette_station::{list_into, pred_into, Colors, PaletteView, Refusal, MAX_COLORS};
 use std::time::Duration;
 
 /// No call word.
@@ -14,18 +17,21 @@ const WORD: u32 = 0xeeee_eeee;
 /// A number, and no colour.
 const VALUE: f32 = -3.5;
 
-/// Places behind the room.
-const BEHIND: usize = 16;
-
 pub fn compare(run: Run) -> Result<bool, String> {
     drive(run, |index, tally| {
         let (request, kinds) = request(run.seed, index);
         let (listed, predicted) = (list_answer(&request), pred_answer(&request));
-        let same = [
-            ("list", same_list(&request, &listed, tally)),
-            ("pred", same_pred(&request, &predicted)),
-        ];
         count_kinds(tally, &kinds, &listed, &predicted);
+        let same = match lent(&request.palette) {
+            Ok(palette) => vec![
+                ("list", same_list(&request, &palette, &listed, tally)),
+                ("pred", same_pred(&palette, &predicted)),
+            ],
+            Err(refusal) => {
+                tally.kind("type", "colours refused");
+                same_refusal(&request.palette, refusal, [listed.number, predicted.number])
+            }
+        };
         tally.case(index, &same);
         Ok(())
     })
@@ -48,25 +54,55 @@ fn count_kinds(tally: &mut Tally, kinds: &RequestKinds, listed: &ListAnswer, pre
     }
 }
 
-fn same_list(request: &Request, expected: &ListAnswer, tally: &mut Tally) -> bool {
-    let mut words = vec![WORD; expected.room + BEHIND];
-    let mut listed = [WORD; 2];
+/// The palette as the package takes it.
+fn lent(palette: &Palette) -> Result<PaletteView<'_>, Refusal> {
+    Ok(PaletteView {
+        width: palette.w,
+        height: palette.h,
+        bd: palette.bd,
+        colors: Colors::new(&palette.colors)?,
+        transposed: palette.transposed,
+        map: &palette.map,
+        flags: &palette.flags,
+        // Neither function looks at the estimate.
+        bits: 0.0,
+    })
+}
+
+/// Colours that no palette of the package holds. Document 01 may refuse the request by an earlier
+/// test.
+fn same_refusal(palette: &Palette, refusal: Refusal, numbers: [u32; 2]) -> Vec<Same> {
+    let [list, pred] = numbers.map(|number| matches!(number, 1 | 2 | 11));
+    vec![
+        ("count of colours", palette.colors.len() > MAX_COLORS),
+        ("refusal", refusal.number() == 11),
+        ("list", list),
+        ("pred", pred),
+    ]
+}
+
+fn same_list(
+    request: &Request,
+    palette: &PaletteView,
+    due: &ListAnswer,
+    tally: &mut Tally,
+) -> bool {
+    let mut words = Buffer::new(due.room, WORD);
+    let room = words.room();
     let start = Clock::start();
-    let number = station::list(
-        &request.palette,
-        &request.cache,
-        &mut words[..expected.room],
-        &mut listed,
-    );
+    let answer = list_into(palette, &request.cache, room);
     let time = start.elapsed();
-    if number == 0 && expected.number == 0 {
+    if answer.is_ok() && due.number == 0 {
         tally.time(time, time_original(request));
     }
-    let (front, rest) = words.split_at(expected.words.len());
-    number == expected.number
-        && listed == [expected.words.len() as u32, expected.raw_width]
-        && front == expected.words
-        && rest.iter().all(|&word| word == WORD)
+    let same = match answer {
+        Ok(listing) => {
+            let returned = (listing.words, listing.raw_width);
+            due.number == 0 && returned == (&due.words[..], due.raw_width)
+        }
+        Err(refusal) => refusal.number() == due.number,
+    };
+    same && words.holds(&due.words, u32::from)
 }
 
 fn time_original(request: &Request) -> Duration {
@@ -77,12 +113,11 @@ fn time_original(request: &Request) -> Duration {
     elapsed
 }
 
-fn same_pred(request: &Request, expected: &PredAnswer) -> bool {
-    let mut values = vec![VALUE; expected.room + BEHIND];
-    let number = station::pred(&request.palette, &mut values[..expected.room]);
-    let (front, rest) = values.split_at(expected.values.len());
-    let bits = |values: &[f32]| -> Vec<u32> { values.iter().map(|v| v.to_bits()).collect() };
-    number == expected.number
-        && bits(front) == bits(&expected.values)
-        && rest.iter().all(|value| value.to_bits() == VALUE.to_bits())
+fn same_pred(palette: &PaletteView, due: &PredAnswer) -> bool {
+    let mut values = Buffer::new(due.room, VALUE);
+    let same = match pred_into(palette, values.room()) {
+        Ok(ours) => due.number == 0 && same_bits(ours, &due.values, f32::to_bits),
+        Err(refusal) => refusal.number() == due.number,
+    };
+    same && values.holds(&due.values, f32::to_bits)
 }

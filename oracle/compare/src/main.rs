@@ -1,5 +1,6 @@
 //! Compares our crates with the original on fresh cases; status 1 on any difference.
 
+mod buffer;
 mod contexts;
 mod drive;
 mod lists;

@@ -1,40 +1,39 @@
 //! `search`, cell by cell and bit by bit, with what it must leave alone.
 
+use crate::buffer::Buffer;
 use crate::drive::{drive, Run};
 use crate::tally::Tally;
 use palette_compare::clock::Clock;
-use palette_compare::station;
-use palette_oracle::answers::{run_original, SearchAnswer};
+use palette_compare::due::{Due, Same};
+use palette_oracle::answers::run_original;
 use palette_oracle::check::search_number;
 use palette_oracle::generate::searches::{search_request, SearchKinds, SearchRequest};
-use palette_oracle::{fill_costs, Costs};
+use palette_oracle::{fill_costs, Found, Palette};
+use palette_station::{search_into, Block, Costs, Refusal, COSTS};
 use std::time::Duration;
 
 /// No index and no flag.
 const CELL: u8 = 238;
 
-/// No field of an answer; as a float it is far below any estimate.
-const FIELD: u32 = 0xeeee_eeee;
-
-/// Places behind the room.
-const BEHIND: usize = 16;
-
 pub fn compare(run: Run) -> Result<bool, String> {
     drive(run, |index, tally| {
         let (request, kinds) = search_request(run.seed, index);
-        let (expected, original) = expected(&request);
-        let (written, ours) = searched(&request);
-        if (written.number, expected.number) == (0, 0) {
-            tally.time(ours, original);
-        }
-        count_kinds(tally, &kinds, &expected);
-        tally.case(index, &same(&written, &expected));
+        let number = search_number(&request.asked());
+        count_kinds(tally, &kinds, number);
+        let same = match Costs::from_slice(&request.costs) {
+            Ok(costs) => same_search(&request, &costs, number, tally),
+            Err(refusal) => {
+                tally.kind("type", "costs refused");
+                same_refusal(&request, refusal, number)
+            }
+        };
+        tally.case(index, &same);
         Ok(())
     })
 }
 
-fn count_kinds(tally: &mut Tally, kinds: &SearchKinds, expected: &SearchAnswer) {
-    tally.kind("number", format!("{:2}", expected.number));
+fn count_kinds(tally: &mut Tally, kinds: &SearchKinds, number: u32) {
+    tally.kind("number", format!("{number:2}"));
     match kinds.block {
         Some(kinds) => {
             tally.kind("spacing", kinds.spacing.name());
@@ -48,77 +47,75 @@ fn count_kinds(tally: &mut Tally, kinds: &SearchKinds, expected: &SearchAnswer) 
     for damage in &kinds.damages {
         tally.kind("damage", damage.name());
     }
-    if expected.number == 0 {
-        tally.kind("transposed", expected.fields[9]);
-        tally.kind("n", expected.fields[0]);
+}
+
+fn count_found(tally: &mut Tally, palette: &Palette) {
+    tally.kind("transposed", u8::from(palette.transposed));
+    tally.kind("n", palette.colors.len());
+}
+
+/// Costs that no search of the package can be asked with. Document 01 may refuse the request by
+/// an earlier test.
+fn same_refusal(request: &SearchRequest, refusal: Refusal, number: u32) -> Vec<Same> {
+    vec![
+        ("count of costs", request.costs.len() != COSTS),
+        ("refusal", refusal.number() == 5),
+        ("number", (1..=5).contains(&number)),
+    ]
+}
+
+fn same_search(
+    request: &SearchRequest,
+    costs: &Costs,
+    number: u32,
+    tally: &mut Tally,
+) -> Vec<Same> {
+    let (due, original) = due(request, costs, number);
+    let mut map = Buffer::new(request.map_room, CELL);
+    let mut flags = Buffer::new(request.flag_room, CELL);
+    let (map_room, flag_room) = (map.room(), flags.room());
+    let block = block(request);
+    let start = Clock::start();
+    let answer = search_into(&block, request.lambda, costs, map_room, flag_room);
+    let ours = start.elapsed();
+    if let Some(found) = &due.found {
+        count_found(tally, &found.palette);
+        if answer.is_ok() {
+            tally.time(ours, original);
+        }
+    }
+    let mut same = due.same(&answer);
+    same.extend(same_buffers(&map, &flags, &due));
+    same
+}
+
+fn block(request: &SearchRequest) -> Block<'_> {
+    Block {
+        samples: &request.samples,
+        width: request.w,
+        height: request.h,
+        bd: request.bd,
     }
 }
 
 /// What is due, and the time of the original's search. Its costs are filled before, as they are
 /// once per process in the original program.
-fn expected(request: &SearchRequest) -> (SearchAnswer, Duration) {
-    let number = search_number(&request.asked());
-    if let Ok(costs) = <&Costs>::try_from(&request.costs[..]) {
-        fill_costs(costs);
-    }
+fn due(request: &SearchRequest, costs: &Costs, number: u32) -> (Due, Duration) {
+    fill_costs(costs.as_table());
     let start = Clock::start();
     let found = run_original(request, number);
     let time = start.elapsed();
-    (SearchAnswer::new(number, found), time)
+    (Due { number, found }, time)
 }
 
-/// What ours returned and wrote, into buffers that go on behind the room.
-struct Written {
-    number: u32,
-    fields: [u32; 10],
-    bits: f32,
-    map: Vec<u8>,
-    flags: Vec<u8>,
-}
-
-fn searched(request: &SearchRequest) -> (Written, Duration) {
-    let mut map = vec![CELL; request.map_room + BEHIND];
-    let mut flags = vec![CELL; request.flag_room + BEHIND];
-    let (mut fields, mut bits) = ([FIELD; 10], f32::from_bits(FIELD));
-    let start = Clock::start();
-    let number = station::search(
-        &request.asked(),
-        &mut map[..request.map_room],
-        &mut flags[..request.flag_room],
-        &mut fields,
-        &mut bits,
-    );
-    let time = start.elapsed();
-    let written = Written {
-        number,
-        fields,
-        bits,
-        map,
-        flags,
+/// After a refusal nothing is written.
+fn same_buffers(map: &Buffer<u8>, flags: &Buffer<u8>, due: &Due) -> [Same; 2] {
+    let (cells, lines) = match &due.found {
+        Some(Found { palette, .. }) => (&palette.map[..], &palette.flags[..]),
+        None => (&[][..], &[][..]),
     };
-    (written, time)
-}
-
-fn same(written: &Written, expected: &SearchAnswer) -> [(&'static str, bool); 8] {
-    let fields =
-        |places: std::ops::Range<usize>| written.fields[places.clone()] == expected.fields[places];
-    let (map, behind_map) = written.map.split_at(expected.map.len());
-    let (flags, behind_flags) = written.flags.split_at(expected.flags.len());
-    let untouched = |cells: &[u8]| cells.iter().all(|&cell| cell == CELL);
     [
-        ("number", written.number == expected.number),
-        ("n", fields(0..1)),
-        ("colours", fields(1..9)),
-        ("orientation", fields(9..10)),
-        (
-            "estimate",
-            written.bits.to_bits() == expected.bits.to_bits(),
-        ),
-        ("map", map == expected.map),
-        ("flags", flags == expected.flags),
-        (
-            "places behind",
-            untouched(behind_map) && untouched(behind_flags),
-        ),
+        ("map's buffer", map.holds(cells, u32::from)),
+        ("flags' buffer", flags.holds(lines, u32::from)),
     ]
 }
