@@ -8,7 +8,7 @@ use borrow.Author.Tests.{le-leb, leb-true}
 use lib.Dec.{leb, ltb}
 use lib.ListN.{length, take}
 use lib.Seq.{length-take-le}
-use Rattle.lists.proofs.Choice.{and-l, and-r, and-false}
+use Rattle.lists.proofs.Choice.{and-l, and-false}
 use Rattle.lists.proofs.Counted.{within-at}
 use Rattle.lists.specs.Counted.{within, above, ascending, allIn}
 use Rattle.literals.specs.Literals.{levelsOk}

@@ -6,6 +6,7 @@ use mathlib.Core.List.{List}
 use lib.Dec.{eqb, leb, ltb}
 use lib.ListN.{length, getD}
 use Rattle.lists.specs.Counted.{within, allBelow, allIn}
+use Rattle.counts.specs.Counts.{orientSent}
 use Rattle.context.specs.Map.{lineCell, linesOf, lengthOf}
 use Rattle.literals.specs.Literals.{levelsOk}
 use Rattle.accept.specs.Palette.{Palette}
@@ -24,7 +25,7 @@ colorsOk bd cs = within 2 8 (length cs) && levelsOk bd cs
 
 -- 12: transposed only if both sides are below 64
 unfoldable pub orientOk : ℕ → ℕ → Bool → Bool
-orientOk w h t = not t || (ltb w 64 && ltb h 64)
+orientOk w h t = not t || orientSent w h
 
 -- 13: the cache's length
 unfoldable pub cacheOk : ℕ → Bool

@@ -4,7 +4,7 @@ use context::Index;
 use context::Level;
 ghost use mathlib.Core.Path.{_≡_};
 ghost use mathlib.Core.Bool.{_&&_};
-ghost use Prim.Native.Nat.{_+_, _-_, _*_, _^_, _<_, _≤_};
+ghost use Prim.Native.Nat.{_+_, _*_, _<_, _≤_};
 ghost use lib.Dec.{eqb, ltb, leb};
 ghost use lib.ListN.{length, take, getD};
 ghost use Rattle.lists.specs.Counted.{within, allBelow, allIn};
@@ -73,17 +73,11 @@ fn colors_ok(colors: [u16; 8], n: usize, bd: u32) -> bool
     false
 }
 
-// A transposed palette has both sides below 64.
+// A transposed palette sends its orientation.
 pub fn orient_ok(width: usize, height: usize, transposed: bool) -> bool
     ensures { λ r. ⌜ r ≡ orientOk width height transposed ⌝ }
 {
-    if transposed {
-        if 64 <= width {
-            return false;
-        }
-        return height < 64;
-    }
-    true
+    !transposed | counts::orient_sent(width, height)
 }
 
 // Whether every index is below n. It looks at all of them: without a way out the loop is quicker.

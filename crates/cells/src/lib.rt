@@ -1,4 +1,5 @@
 // The choice of one cell's index among its candidates. Functions may have a `requires`.
+use context::Near;
 ghost use mathlib.Core.Path.{_≡_};
 ghost use Prim.Native.Nat.{_+_, _*_, _≤_, _<_};
 ghost use mathlib.Core.Bool.{cond};
@@ -128,7 +129,7 @@ fn better(p: Pick, total: f32, rank: usize, index: usize) -> Pick
 }
 
 // The neighbours' candidates, one to three.
-fn pick_near(dists: &[f32; 8], rates: &[f32; 8], m: near::Near, lambda: f32) -> Pick
+fn pick_near(dists: &[f32; 8], rates: &[f32; 8], m: Near, lambda: f32) -> Pick
     requires { ⌜ Usable m 8 ⌝ }
     ensures { λ r. ⌜ r ≡ chosen (now (dists .entry)) (now (rates .entry)) lambda (firstsOf m) ⌝ }
 {
@@ -157,14 +158,7 @@ pub struct Rest {
 }
 
 // The candidate v, unless it is a neighbour's index.
-fn consider(
-    dists: &[f32; 8],
-    rates: &[f32; 8],
-    m: near::Near,
-    v: usize,
-    lambda: f32,
-    s: Rest,
-) -> Rest
+fn consider(dists: &[f32; 8], rates: &[f32; 8], m: Near, v: usize, lambda: f32, s: Rest) -> Rest
     requires { ⌜ Usable m 8 × (v < 8) × (s .rank ≡ m .count + length (others (firstsOf m) v)) ⌝ }
     ensures { λ r. ⌜ r ≡ cond (elem v (firstsOf m)) s (record {
       best = cond (lt (pickAt (now (dists .entry)) (now (rates .entry)) lambda (s .rank) v .total) (s .best .total))
@@ -182,14 +176,7 @@ fn consider(
 }
 
 // The indices that are no neighbours', in ascending order.
-fn pick_rest(
-    dists: &[f32; 8],
-    rates: &[f32; 8],
-    m: near::Near,
-    n: usize,
-    lambda: f32,
-    from: Pick,
-) -> Pick
+fn pick_rest(dists: &[f32; 8], rates: &[f32; 8], m: Near, n: usize, lambda: f32, from: Pick) -> Pick
     requires { ⌜ Usable m 8 × (n ≤ 8) ⌝ }
     ensures { λ r. ⌜ r ≡ cheapest (λ (p : Pick). p .total) from (ranked (now (dists .entry)) (now (rates .entry)) lambda (m .count) (others (firstsOf m) n)) ⌝ }
 {
@@ -209,7 +196,7 @@ fn pick_rest(
 pub fn choose_cell(
     x: f32,
     colors: &[f32; 8],
-    m: near::Near,
+    m: Near,
     rates: &[f32; 8],
     n: usize,
     lambda: f32,

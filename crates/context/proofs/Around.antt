@@ -1,12 +1,12 @@
--- What three neighbours give: each index once, each below n, and a context below 5. Assumes nothing.
+-- What three neighbours give: each index once, each below n, one to three of them, and a context below 5. Assumes nothing.
 use mathlib.Core.Path.{_≡_, refl, sym}
 use mathlib.Core.Bool.{Bool, true, false, _||_}
-use mathlib.Core.List.{List, [], _∷_}
-use Prim.Native.Nat.{ℕ, zero, suc, _+_, _*_, _<_}
+use mathlib.Core.List.{List, [], _∷_, _++_}
+use Prim.Native.Nat.{ℕ, zero, suc, _+_, _-_, _*_, _≤_, _<_}
 use native.Mathlib.Nat.{suc-mul}
 use native.Mathlib.Omega.{arith}
 use lib.Dec.{eqb}
-use lib.ListN.{getD}
+use lib.ListN.{length, getD, replicate}
 use borrow.Author.Tests.{eqb-true, eqb-false, ne-eqb}
 use Rattle.lists.specs.Counted.{elem}
 use Rattle.context.specs.Map.{cell}
@@ -69,6 +69,28 @@ choose-ctx true false e l t d = omega arith
 choose-ctx false true e l t d = omega arith
 choose-ctx false false true l t d = omega arith
 choose-ctx false false false l t d = omega arith
+
+-- one to three come first
+choose-count : (b c e : Bool) (l t d : ℕ) → (1 ≤ length (choose b c e l t d .firsts)) × (length (choose b c e l t d .firsts) ≤ 3)
+unfolding choose
+choose-count true true e l t d = (omega arith, omega arith)
+choose-count true false e l t d = (omega arith, omega arith)
+choose-count false true e l t d = (omega arith, omega arith)
+choose-count false false true l t d = (omega arith, omega arith)
+choose-count false false false l t d = (omega arith, omega arith)
+
+pub three-count : (l t d : ℕ) → (1 ≤ length (byThree l t d .firsts)) × (length (byThree l t d .firsts) ≤ 3)
+unfolding byThree
+three-count l t d = choose-count (eqb l t) (eqb l d) (eqb d t) l t d
+
+-- so three places hold them all, and zeros after them
+pub in-three : (xs ys : List ℕ) → length xs ≤ 3
+    → getD xs 0 0 ∷ getD xs 1 0 ∷ getD xs 2 0 ∷ ys ≡ xs ++ (replicate (3 - length xs) 0 ++ ys)
+in-three [] ys h = refl
+in-three (x ∷ []) ys h = refl
+in-three (x ∷ y ∷ []) ys h = refl
+in-three (x ∷ y ∷ z ∷ []) ys h = refl
+in-three (x ∷ y ∷ z ∷ v ∷ xs) ys h = absurd (omega arith)
 
 pub three-ctx : (l t d : ℕ) → byThree l t d .ctx < 5
 unfolding byThree

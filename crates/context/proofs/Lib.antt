@@ -1,5 +1,4 @@
 pub mod Order
 pub mod Around
 pub mod Parts
-pub mod Inside
 pub mod Ranks

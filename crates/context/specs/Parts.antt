@@ -1,9 +1,9 @@
--- What the functions within the crate answer: the steps of `color_ctx`.
-use Prim.Native.Nat.{ℕ, _-_}
+-- What the steps of `color_ctx` answer.
+use Prim.Native.Nat.{ℕ}
 use mathlib.Core.Bool.{Bool, cond, _&&_}
-use mathlib.Core.List.{List, [], _∷_, _++_}
+use mathlib.Core.List.{List, [], _∷_}
 use lib.Dec.{ltb}
-use lib.ListN.{length, getD, replicate}
+use lib.ListN.{length, getD}
 use Rattle.lists.specs.Counted.{allIn}
 use Rattle.context.specs.Order.{Around, byThree}
 use Rattle.context.specs.Context.{answered, refused}
@@ -12,12 +12,10 @@ use Rattle.context.specs.declared.Near.{Near}
 use Rattle.context.specs.declared.Neighbour.{Neighbour}
 use Rattle.context.specs.declared.Neighbour.the-variants.{Color, Nothing}
 
--- a list in eight places, with zeros after it
-abbrev pub padded : List ℕ → List ℕ
-padded xs = xs ++ replicate (8 - length xs) 0
-
+-- a context and the indices that come first, of which there are at most three
 abbrev pub held : Around → Near
-held a = record { ctx = a .ctx; count = length (a .firsts); firsts = padded (a .firsts) }
+held a =
+    record { ctx = a .ctx; count = length (a .firsts); a = getD (a .firsts) 0 0; b = getD (a .firsts) 1 0; c = getD (a .firsts) 2 0 }
 
 -- place p stands in the map and has an index below n
 abbrev pub usable : List ℕ → ℕ → ℕ → Bool

@@ -4,7 +4,7 @@ ghost use mathlib.Core.Path.{_≡_};
 ghost use mathlib.Core.Bool.{not, cond};
 ghost use mathlib.Core.List.{_∷_, []};
 ghost use Prim.Native.Nat.{ℕ, _+_, _*_, _≤_, _<_, min};
-ghost use lib.ListN.{length, getD, replicate};
+ghost use lib.ListN.{length, getD};
 ghost use lib.Dec.{eqb};
 ghost use Rattle.lists.specs.Counted.{elem, bit};
 ghost use Rattle.context.specs.Map.{linesOf, lengthOf};
@@ -35,11 +35,13 @@ enum Neighbour {
     Nothing,
 }
 
-// A context, and the count neighbours that come first in the order, then zeros.
-struct Near {
+// A context, and the count neighbours' indices that come first in the order, one to three, then zeros.
+pub struct Near {
     pub ctx: usize,
     pub count: usize,
-    pub firsts: [u8; 8],
+    pub a: u8,
+    pub b: u8,
+    pub c: u8,
 }
 
 // How many lines a map has, and how many places a line: rows, or columns when transposed.
@@ -91,19 +93,20 @@ fn neighbour_at(map: &[u8], at: usize, n: u8) -> Neighbour
     Neighbour::Nothing
 }
 
-// At most three neighbours come first.
 fn near_of(ctx: usize, count: usize, a: u8, b: u8, c: u8) -> Near
-    ensures { λ r. ⌜ r ≡ record { ctx = ctx; count = count; firsts = a ∷ b ∷ c ∷ replicate 5 0 } ⌝ }
+    ensures { λ r. ⌜ r ≡ record { ctx = ctx; count = count; a = a; b = b; c = c } ⌝ }
 {
     Near {
         ctx,
         count,
-        firsts: [a, b, c, 0, 0, 0, 0, 0],
+        a,
+        b,
+        c,
     }
 }
 
 // Left, top and diagonal: which are equal gives the context.
-fn nearest(left: Index, top: Index, diag: Index) -> Near
+pub fn nearest(left: Index, top: Index, diag: Index) -> Near
     ensures { λ r. ⌜ r ≡ held (byThree (left .0) (top .0) (diag .0)) ⌝ }
 {
     let l = left.0;
@@ -143,7 +146,7 @@ fn answer(left: Index, top: Index, diag: Index, n: u8) -> Context
     ensures { λ r. ⌜ r ≡ answered (byThree (left .0) (top .0) (diag .0)) n ⌝ }
 {
     let near = nearest(left, top, diag);
-    let mut order = near.firsts;
+    let mut order = [near.a, near.b, near.c, 0, 0, 0, 0, 0];
     let mut used = near.count;
     let mut v: u8 = 0;
     while v < n {

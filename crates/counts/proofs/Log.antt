@@ -1,13 +1,13 @@
 -- `ceilLog2` is the least b with v ≤ 2^b, for v up to 2^32; and what the count of leading zeros says of it. Assumes nothing.
-use mathlib.Core.Path.{_≡_, refl, sym, subst, _∙_, ap}
+use mathlib.Core.Path.{_≡_, refl, sym, _∙_}
 use mathlib.Core.Bool.{Bool, true, false, cond}
 use Prim.Native.Nat.{ℕ, zero, suc, _+_, _-_, _*_, _%_, _^_, _<_, _≤_, zero-le}
 use native.Mathlib.Decide.{decLe}
 use native.Mathlib.Omega.{arith}
-use native.Mathlib.Nat.{le-refl, le-trans, one-mul, mod-eq-of-lt, not-le-of-lt, lt-of-le-of-lt, le-antisymm}
+use native.Mathlib.Nat.{le-trans, one-mul, mod-eq-of-lt, not-le-of-lt, le-antisymm}
 use borrow.Author.Tests.{leb-true, leb-false}
-use lib.Dec.{leb, lit≤}
-use lib.Count.{leadingZeros, leading-top, leading-le}
+use lib.Dec.{leb}
+use lib.Count.{leadingZeros, leading-top}
 use lib.Pow.{pow-mono, pow-lt}
 use Rattle.counts.specs.Counts.{leastBits, ceilLog2}
 

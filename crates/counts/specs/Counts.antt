@@ -16,6 +16,10 @@ ceilLog2 v = leastBits 32 v
 unfoldable pub uniformBits : ℕ → ℕ → ℕ
 uniformBits v n = let l = ceilLog2 (n + 1) in cond (ltb v (2 ^ l - n)) (l - 1) l
 
+-- an orientation bit is sent if both sides are below 64
+abbrev pub orientSent : ℕ → ℕ → Bool
+orientSent w h = ltb w 64 && ltb h 64
+
 -- sides in units of 4: each at most 16, their product at least 4, so that a zero side fails
 unfoldable pub blockAllowed : ℕ → ℕ → Bool
 blockAllowed bw4 bh4 = leb bw4 16 && leb bh4 16 && leb 4 (bw4 * bh4)

@@ -1,6 +1,6 @@
-// Counts of bits, and the block sizes that may have a palette. Each function answers for all arguments.
+// Counts of bits, and tests of a block's sides. Each function answers for all arguments.
 ghost use mathlib.Core.Path.{_≡_};
-ghost use Rattle.counts.specs.Counts.{ceilLog2, uniformBits, blockAllowed};
+ghost use Rattle.counts.specs.Counts.{ceilLog2, uniformBits, orientSent, blockAllowed};
 
 // The least b with v <= 2^b; 0 and 1 give 0.
 pub fn ceil_log2(v: u32) -> u32
@@ -22,6 +22,13 @@ pub fn uniform_bits(v: u32, n: u32) -> u32
     let l = 32 - u32::leading_zeros(n);
     let short = (1u64 << l) - n as u64;
     if (v as u64) < short { l - 1 } else { l }
+}
+
+// Whether an orientation bit is sent: both sides are below 64.
+pub fn orient_sent(width: usize, height: usize) -> bool
+    ensures { λ r. ⌜ r ≡ orientSent width height ⌝ }
+{
+    (width < 64) & (height < 64)
 }
 
 // Sides in units of 4. The sides are tested first, so that the product cannot overflow.

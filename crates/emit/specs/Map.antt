@@ -1,10 +1,11 @@
 -- Document 01, 'Map': the orientation bit, then each line's flag and the cells that it sends.
 use Prim.Native.Nat.{ℕ, zero, suc, _+_, _*_, _-_, _≤_, _<_}
-use mathlib.Core.Bool.{Bool, cond, _&&_}
+use mathlib.Core.Bool.{Bool, cond}
 use mathlib.Core.List.{List, [], _∷_, _++_}
-use lib.Dec.{eqb, ltb}
+use lib.Dec.{eqb}
 use lib.ListN.{length, getD}
 use Rattle.lists.specs.Counted.{upTo, bit}
+use Rattle.counts.specs.Counts.{orientSent}
 use Rattle.context.specs.Map.{cell, rowAt, colAt, linesOf, lengthOf}
 use Rattle.context.specs.Order.{Around, byThree, around, rankOf}
 use Rattle.literals.specs.Words.{word, bypass}
@@ -40,9 +41,9 @@ lineWords n t flags map w len l =
     word 4 (rowContext flags l) (getD flags l 0)
     ∷ upTo (λ a. lineWord n t map w l a ∷ []) (sentCells (getD flags l 0) len)
 
--- sent only if both sides are below 64
+-- the orientation bit, where it is sent
 unfoldable pub orientWords : ℕ → ℕ → Bool → List ℕ
-orientWords w h t = cond (ltb w 64 && ltb h 64) (bypass 1 (bit t) ∷ []) []
+orientWords w h t = cond (orientSent w h) (bypass 1 (bit t) ∷ []) []
 
 unfoldable pub mapWords : ℕ → Bool → List ℕ → List ℕ → ℕ → ℕ → List ℕ
 mapWords n t flags map w h = orientWords w h t ++ upTo (lineWords n t flags map w (lengthOf t w h)) (linesOf t w h)

@@ -283,19 +283,16 @@ fn emit_lines(
     pos
 }
 
-// The orientation bit, where both sides are below 64.
+// The orientation bit, where it is sent.
 fn emit_orientation(transposed: bool, w: usize, h: usize, out: &mut [u32], at: usize) -> usize
     requires { ⌜ at + length (orientWords w h transposed) ≤ length (now out) ⌝ }
     ensures { λ r. ⌜ r ≡ at + length (orientWords w h transposed) ⌝ }
     ensures { λ r. ⌜ now (out .exit) ≡ written (now (out .entry)) at (orientWords w h transposed) ⌝ }
 {
-    if 64 <= w {
-        return at;
+    if counts::orient_sent(w, h) {
+        return literals::put_bypass(out, at, 1, bit_of(transposed));
     }
-    if 64 <= h {
-        return at;
-    }
-    literals::put_bypass(out, at, 1, bit_of(transposed))
+    at
 }
 
 // As `emit_map`. The codes are told in `codes` first, of all cells at once.

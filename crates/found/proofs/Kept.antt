@@ -7,29 +7,31 @@ use native.Mathlib.Nat.{le-of-eq}
 use native.Mathlib.Omega.{arith}
 use lib.Ieee.{Float, binary32}
 use lib.ListN.{length, replicate, length-replicate}
-use lib.Seq.{take-all}
 use borrow.Author.Tests.{le-leb, eq-eqb}
 use Rattle.ieee.specs.Numbers.{nat}
-use Rattle.samples.specs.Samples.{levelOf}
 use Rattle.groups.specs.declared.Histogram.{Histogram}
-use Rattle.groups.specs.Histogram.{histogramOf, levelsOf, IsHistogram}
-use Rattle.groups.specs.Groups.{centersOf}
+use Rattle.groups.specs.Histogram.{IsHistogram}
+use Rattle.groups.specs.Groups.{centersOf, groupsOf}
 use Rattle.groups.proofs.Colors.{colors-take, centers-length}
 use Rattle.context.specs.Map.{linesOf}
 use Rattle.map_search.specs.Lines.{scanOf}
+use Rattle.map_search.specs.Sound.{Sound}
+use Rattle.map_search.specs.declared.Scan.{Scan}
 use Rattle.map_search.proofs.Scans.{scan-sound}
 use Rattle.literals.specs.Literals.{levelsOk}
 use Rattle.accept.specs.Palette.{Palette, firstColors, paletteOf}
 use Rattle.accept.specs.Accepted.{sidesOk, depthOk, colorsOk, orientOk, cacheOk, countsOk, Accepted}
 use Rattle.sizes.specs.declared.Block.{Block}
-use Rattle.sizes.specs.Sizes.{sentFor, headOf}
-use Rattle.search.specs.Search.{Standing}
+use Rattle.counts.specs.Counts.{orientSent}
+use Rattle.sizes.specs.Sizes.{headOf}
+use Rattle.search.specs.Search.{Standing, histogramIn}
 use Rattle.search.specs.Steps.{Ready}
-use Rattle.search.proofs.Heads.{is-histogram, levels-ok}
-use Rattle.search.proofs.Finds.{Kept, zeros-below}
-use Rattle.found.specs.Valid.{Valid}
-use Rattle.found.proofs.Valid.{found-valid}
-use Rattle.found.proofs.Accepted.{lines-are, accepted}
+use Rattle.search.proofs.Zeros.{zeros-below}
+use Rattle.search.proofs.Lengths.{lines-are}
+use Rattle.search.proofs.Colors.{levelsIn, is-histogram, levels-ok}
+use Rattle.search.proofs.Kept.{Kept, kept-cells, kept-flags}
+use Rattle.found.proofs.Valid.{Valid, found-valid}
+use Rattle.found.proofs.Accepted.{accepted}
 
 -- ---- the tests of the listing, each from plain facts
 sides-ok : (w h : ℕ) → 1 ≤ w → w ≤ 64 → 1 ≤ h → h ≤ 64 → sidesOk w h ≡ true
@@ -44,7 +46,7 @@ colors-ok : (bd : ℕ) (cs : List ℕ) → 2 ≤ length cs → length cs ≤ 8 �
 unfolding colorsOk
 colors-ok bd cs p q l = rw (le-leb 2 (length cs) p, le-leb (length cs) 8 q, l) refl
 
-orient-ok : (w h : ℕ) (t : Bool) → (t ≡ true → sentFor w h ≡ true) → orientOk w h t ≡ true
+orient-ok : (w h : ℕ) (t : Bool) → (t ≡ true → orientSent w h ≡ true) → orientOk w h t ≡ true
 unfolding orientOk
 orient-ok w h false f = refl
 orient-ok w h true f = f refl
@@ -59,68 +61,70 @@ unfolding countsOk
 counts-ok w h p m f = rw (eq-eqb _ _ m, eq-eqb _ _ f) refl
 
 -- ---- a kept map passes them all
-module _ (samples costs : List Float) (b : Block) (cells lines : ℕ) (passed : Ready samples costs b cells lines) where
-  abbrev levels : Histogram
-  levels = histogramOf (map levelOf samples)
+module _ {samples costs : List Float} {b : Block} {room lineRoom : ℕ} (ready : Ready samples costs b room lineRoom)
+    (few : histogramIn samples .n ≤ 32) {s : Standing} (kept : Kept samples costs b (histogramIn samples) s) where
+  abbrev histogram : Histogram
+  histogram = histogramIn samples
 
-  module _ (most : levels .n ≤ 32) (s : Standing) (k : Kept samples costs b levels s) where
-    abbrev w : ℕ
-    w = b .width
+  abbrev w : ℕ
+  w = b .width
 
-    abbrev h : ℕ
-    h = b .height
+  abbrev h : ℕ
+  h = b .height
 
-    abbrev n : ℕ
-    n = s .best .n
+  abbrev n : ℕ
+  n = s .best .n
 
-    abbrev t : Bool
-    t = s .best .transposed
+  abbrev t : Bool
+  t = s .best .transposed
 
-    some : 0 < n
-    some = omega (arith, k .two)
+  abbrev scan : Scan
+  scan = scanOf w h t
 
-    histogram : IsHistogram (levelsOf (map levelOf samples)) levels
-    histogram = is-histogram samples costs b cells lines passed levels refl most
+  sound : Sound scan (w * h)
+  sound = scan-sound w h t (ready .wide) (ready .wideMost) (ready .high) (ready .highMost)
 
-    -- its colours are those of its groups
-    colors-are : firstColors (s .best .colors) n ≡ centersOf levels n
-    unfolding firstColors
-    colors-are = rw (le-leb n 8 (k .eight), k .colors) (colors-take _ levels histogram n some (k .few) (k .eight))
+  some : 0 < n
+  some = omega (arith, kept .two)
 
-    colors-count : length (firstColors (s .best .colors) n) ≡ n
-    colors-count = rw colors-are (centers-length _ levels histogram n some (k .few))
+  is : IsHistogram (levelsIn samples) histogram
+  is = is-histogram ready refl few
 
-    colors-pass : colorsOk (b .bd) (firstColors (s .best .colors) n) ≡ true
-    colors-pass =
-        colors-ok (b .bd) _ (omega (arith, k .two, colors-count)) (omega (arith, k .eight, colors-count))
-        (rw colors-are (levels-ok samples costs b cells lines passed levels refl most n (k .two) (k .eight) (k .few)))
+  -- its colours are those of its groups
+  colors-are : firstColors (s .best .colors) n ≡ centersOf histogram n
+  unfolding firstColors
+  colors-are =
+      rw (le-leb n 8 (kept .eight), kept .colors)
+      (colors-take (levelsIn samples) histogram is n some (kept .few) (kept .eight))
 
-    -- its map is that of a walk that ended
-    valid : Valid n (scanOf w h t) (s .map) (s .flags)
-    valid =
-        let scan = scanOf w h t in
-        let sound = scan-sound w h t (passed .wide) (passed .wideMost) (passed .high) (passed .highMost) in
-        let colours = map (nat binary32) (s .best .colors) in
-        let head = headOf costs b (centersOf levels n) in
-        subst (λ e. Valid n scan (e .map) (e .flags)) (k .whole)
-        (found-valid samples costs colours n (b .lambda) scan (w * h) sound some (k .eight) head (k .bound)
-        (replicate (w * h) 0) (replicate (scan .lines) 0) (k .error) (k .bits)
-        (le-of-eq (sym (length-replicate (w * h) 0))) (le-of-eq (sym (length-replicate (scan .lines) 0)))
-        (λ i. zeros-below (w * h) n i some) (ap (λ e. e .result) (k .whole)))
+  colors-count : length (firstColors (s .best .colors) n) ≡ n
+  colors-count = rw colors-are (centers-length (levelsIn samples) histogram is n some (kept .few))
 
-    pub kept-accepted : length (s .map) ≡ w * h → length (s .flags) ≡ scanOf w h t .lines
-        → (cache : List ℕ) → length cache ≤ 64
-        → Accepted w h (b .bd) cache (paletteOf (s .best .colors) n t (s .map) (s .flags))
-    kept-accepted m f cache c =
-        let g : length (s .flags) ≡ linesOf t w h = f ∙ lines-are w h t .0 in
-        let a = accepted w h (firstColors (s .best .colors) n) t (s .map) (s .flags) (passed .wide) (passed .wideMost)
-        (passed .high) (passed .highMost) (le-of-eq (sym m)) (le-of-eq (sym g)) (rw colors-count valid) in
-        record {
-          sides = sides-ok w h (passed .wide) (passed .wideMost) (passed .high) (passed .highMost);
-          depth = depth-ok (b .bd) (passed .deep) (passed .deepMost);
-          colors = colors-pass;
-          orient = orient-ok w h t (k .orient);
-          cacheLength = cache-ok (length cache) c;
-          counts = counts-ok w h _ m g;
-          map = rw (take-all _ (s .map) (le-of-eq m), take-all _ (s .flags) (le-of-eq g)) at (a .2);
-        }
+  colors-pass : colorsOk (b .bd) (firstColors (s .best .colors) n) ≡ true
+  colors-pass =
+      colors-ok (b .bd) _ (omega (arith, kept .two, colors-count)) (omega (arith, kept .eight, colors-count))
+      (rw colors-are (levels-ok ready refl few n (kept .two, kept .eight, kept .few)))
+
+  -- its map is that of a walk that ended
+  valid : Valid n scan (s .map) (s .flags)
+  valid =
+      let colours = map (nat binary32) (groupsOf histogram n .colors) in
+      let head = headOf costs b (centersOf histogram n) in
+      let cells = le-of-eq (sym (length-replicate {A = ℕ} (w * h) 0)) in
+      let lines = le-of-eq (sym (length-replicate {A = ℕ} (scan .lines) 0)) in
+      subst (λ e. Valid n scan (e .map) (e .flags)) (kept .whole)
+      (found-valid samples costs colours n (b .lambda) scan (w * h) sound some (kept .eight) head (kept .bound)
+      (replicate (w * h) 0) (replicate (scan .lines) 0) cells lines (λ i. zeros-below (w * h) n i some) (kept .error)
+      (kept .bits) (ap (λ e. e .result) (kept .whole)))
+
+  pub kept-accepted : (cache : List ℕ) → length cache ≤ 64
+      → Accepted w h (b .bd) cache (paletteOf (s .best .colors) n t (s .map) (s .flags))
+  kept-accepted cache cached = record {
+    sides = sides-ok w h (ready .wide) (ready .wideMost) (ready .high) (ready .highMost);
+    depth = depth-ok (b .bd) (ready .deep) (ready .deepMost);
+    colors = colors-pass;
+    orient = orient-ok w h t (kept .orient);
+    cacheLength = cache-ok (length cache) cached;
+    counts = counts-ok w h _ (kept-cells kept) (kept-flags kept ∙ lines-are w h t .0);
+    map = accepted w h t sound valid (firstColors (s .best .colors) n) colors-count;
+  }

@@ -1,3 +1,4 @@
+pub mod Lines
 pub mod Valid
 pub mod Accepted
 pub mod Kept

@@ -2,15 +2,13 @@
 use Prim.Native.Nat.{ℕ, _*_, _≤_}
 use mathlib.Core.Bool.{Bool, true, false, cond}
 use mathlib.Core.Path.{_≡_, refl, sym, ap, _∙_, subst}
-use mathlib.Core.List.{List, map}
+use mathlib.Core.List.{List}
 use lib.Dec.{eqb}
 use lib.Ieee.{Float}
 use lib.ListN.{length, take, drop}
 use lib.Seq.{take-at}
 use borrow.Author.Tests.{le-leb, eqb-true, eqb-false}
 use Rattle.lists.specs.Written.{front}
-use Rattle.samples.specs.Samples.{levelOf}
-use Rattle.groups.specs.Histogram.{histogramOf}
 use Rattle.context.specs.Map.{linesOf}
 use Rattle.map_search.specs.Lines.{scanOf}
 use Rattle.accept.specs.Palette.{Palette, paletteOf}
@@ -22,10 +20,11 @@ use Rattle.sizes.specs.declared.Block.{Block}
 use Rattle.search.specs.Search.{Standing, foundIn, searchNumber, paletteBy, refusedBy, Searches}
 use Rattle.search.specs.declared.Best.{Best}
 use Rattle.search.specs.declared.Palette.{Palette as Answer}
-use Rattle.search.proofs.Finds.{finds, kept-cells, kept-flags}
-use Rattle.search.proofs.Passed.{ready}
+use Rattle.search.proofs.Lengths.{lines-are}
+use Rattle.search.proofs.Passed.{all-passed}
+use Rattle.search.proofs.Kept.{kept-cells, kept-flags}
+use Rattle.search.proofs.Finds.{finds}
 use Rattle.found.specs.Listed.{foundPalette, ListedWhole}
-use Rattle.found.proofs.Accepted.{lines-are}
 use Rattle.found.proofs.Kept.{kept-accepted}
 
 -- search returned 0: all its tests have passed, and it handed the best map over
@@ -72,16 +71,14 @@ pub found-is-listed : (samples costs : List Float) (b : Block) (map₀ map flags
     (before after : List ℕ) (l : Listed) → Lists (b .width) (b .height) (b .bd) cache p before after l
     → length (callList (b .width) (b .height) (b .bd) cache p) ≤ length before
     → ListedWhole (b .width) (b .height) (b .bd) cache p before after l
-found-is-listed samples costs b map₀ cells flags₀ flags r f z cache c before after l a room =
-    let levels = histogramOf (map levelOf samples) in
+found-is-listed samples costs b map₀ cells flags₀ flags r answered zero cache cached before after l lists room =
     let s = foundIn samples costs b in
-    let o = answer-zero (searchNumber samples costs b (length map₀) (length flags₀)) (s .best) r (f .answer) z in
-    let q = ready samples costs b (length map₀) (length flags₀) (o .0) in
-    let k = finds samples costs b levels (length map₀) (length flags₀) (q .0) refl (q .1) (q .2) in
-    let m = kept-cells samples costs b levels s k in
-    let g = kept-flags samples costs b levels s k in
-    let same = handed-over (b .width) (b .height) s r map₀ cells flags₀ flags (o .1)
-    (rw z at (f .cells)) (rw z at (f .signs)) m g in
-    let ok = kept-accepted samples costs b (length map₀) (length flags₀) (q .0) (q .2) s k m g cache c in
-    listed-whole (b .width) (b .height) (b .bd) cache _ before after l a
+    let number = searchNumber samples costs b (length map₀) (length flags₀) in
+    let handed = answer-zero number (s .best) r (answered .answer) zero in
+    let passed = all-passed samples costs b (length map₀) (length flags₀) (handed .0) in
+    let kept = finds (passed .0) refl (passed .1) (passed .2) in
+    let same = handed-over (b .width) (b .height) s r map₀ cells flags₀ flags (handed .1)
+    (rw zero at (answered .cells)) (rw zero at (answered .signs)) (kept-cells kept) (kept-flags kept) in
+    let ok = kept-accepted (passed .0) (passed .2) kept cache cached in
+    listed-whole (b .width) (b .height) (b .bd) cache _ before after l lists
     (subst (λ p. Accepted (b .width) (b .height) (b .bd) cache p) same ok) room

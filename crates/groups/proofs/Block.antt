@@ -216,15 +216,6 @@ module _ (top : ℕ) (xs : List ℕ) (c : Cells top xs) where
           (λ l. level-seen i (ltb-true i (length (levelsOf xs)) h) .1
           (none-occurs xs (suc top) (getD (levelsOf xs) i 0) (λ i k. omega (arith, c .below i k)) l))
 
-  -- a block with a cell has a level
-  pub some-level : 0 < length xs → 0 < histogramOf xs .n
-  unfolding histogramOf sumTo
-  some-level h =
-      let none : length (levelsOf xs) ≡ 0 → ⊥ = λ e.
-      let k : length (kept (occurs xs)) ≤ 0 = omega (arith, kept-length (occurs xs)) in
-      omega (arith, counts-total (occurs xs) 4096 0 k, all-cells) in
-      omega arith
-
   module _ (few : histogramOf xs .n ≤ 32) where
     placed : (f : ℕ → ℕ) (i : ℕ) → getD (places (kept f)) i 0 ≡ getD (kept f) i 0
     unfolding histogramOf

@@ -18,11 +18,18 @@ use Rattle.lists.proofs.Ascending.{Ascending, is-ascending}
 use Rattle.groups.specs.declared.Best.{Best}
 use Rattle.groups.specs.declared.Histogram.{Histogram}
 use Rattle.groups.specs.Histogram.{IsHistogram}
-use Rattle.groups.specs.Groups.{prefixOf, costOf, cheaper, firstOf, costIn, cutIn, chosen, IsCut}
+use Rattle.groups.specs.Groups.{prefixOf, costOf, cheaper, firstOf, costIn, cutIn, chosen}
 use Rattle.groups.specs.Groups.{colorOf, colorsOf, cutTo, cutOf, centersOf, groupsOf}
 use Rattle.groups.specs.Tables.{CutsOf}
 use Rattle.groups.proofs.Each.{Each, each-weaken, each-snoc, each-all, ascending-snoc}
 use Rattle.groups.proofs.Means.{levels-rise, color-from, color-to}
+
+-- a cut of the first j levels into k groups, by where they start, the last group first
+abbrev pub IsCut : ℕ → ℕ → List ℕ → Type 0
+IsCut zero j [] = j ≡ 0
+IsCut zero j (i ∷ cut) = ⊥
+IsCut (suc k) j [] = ⊥
+IsCut (suc k) j (i ∷ cut) = (i < j) × IsCut k i cut
 
 -- ---- where a cut lies
 -- what holds of both cuts holds of the cheaper

@@ -1,8 +1,7 @@
 -- The cut of the levels into groups: a dynamic programme on f64 values, operations in the Rust's order. The groups' colours.
-use mathlib.Core.Path.{_≡_}
 use mathlib.Core.Bool.{false, cond}
 use mathlib.Core.List.{List, [], _∷_, _++_}
-use Prim.Native.Nat.{ℕ, zero, suc, _+_, _-_, _*_, _/_, _<_}
+use Prim.Native.Nat.{ℕ, zero, suc, _+_, _-_, _*_, _/_}
 use lib.ListN.{getD, replicate}
 use lib.Ieee.{Float, inf, nan, binary64, add, sub, mul, div, lt, ofBits}
 use Rattle.lists.specs.Written.{written}
@@ -60,13 +59,6 @@ module _ (pw ps pq : List Float) where
   unfoldable pub chosen : ℕ → ℕ → List ℕ
   chosen zero j = []
   chosen (suc k) j = cutIn k j ∷ chosen k (cutIn k j)
-
--- a cut of the first j levels into k groups, by where they start, the last group first
-abbrev pub IsCut : ℕ → ℕ → List ℕ → Type 0
-IsCut zero j [] = j ≡ 0
-IsCut zero j (i ∷ cut) = ⊥
-IsCut (suc k) j [] = ⊥
-IsCut (suc k) j (i ∷ cut) = (i < j) × IsCut k i cut
 
 -- x, or 0.0 where x is not above it
 abbrev pub floored : Float → Float

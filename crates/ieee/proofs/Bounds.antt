@@ -8,16 +8,17 @@ use native.Mathlib.Omega.{arith}
 use lib.Dec.{T, ltb}
 use lib.IntN.{pos}
 use lib.Pow.{pow-add}
-use lib.Ieee.{Float, inf, fin, Format, prec, emax, low, up, down, round, sum, add, sub, neg, mul, lt, eq, le, isNan}
+use lib.Ieee.{Float, inf, fin, Format, prec, emax, low, up, down, round, sum, add, sub, neg, mul, lt, eq, le}
 use lib.Ieee.{unlike, ofBits}
 use lib.Ieee.Fits.{down-pos}
 use lib.Ieee.Exact.{HasValue, round-exact}
 use Rattle.ieee.specs.Bounds.{Under, Within, Rep}
-use Rattle.ieee.specs.Growth.{Grows}
+use Rattle.ieee.specs.Numbers.{nat}
 use Rattle.ieee.proofs.Fractions.{downs-pos, le-whole}
-use Rattle.ieee.proofs.Signs.{add-not-neg, mul-not-neg, square-not-neg, value-not-neg, not-neg-of-test}
+use Rattle.ieee.proofs.Signs.{add-not-neg, square-not-neg, value-not-neg, not-neg-of-test}
 use Rattle.ieee.proofs.Signs.{zero-bits}
-use Rattle.ieee.proofs.Growth.{round-grows, grows-of-le}
+use Rattle.ieee.proofs.Numbers.{nat-val}
+use Rattle.ieee.proofs.Growth.{Grows, round-grows, grows-of-le}
 
 -- ---- where a bound comes from
 pub value-under : (x : Float) (s : Bool) (a c A : ℕ) → 0 < c → HasValue x s a c → a ≤ A * c → Under x A
@@ -47,6 +48,10 @@ under-mono (fin s m e) A B h u = le-trans u (mul-le-mul-right (down e) h)
 
 pub within-mono : (x : Float) (A B : ℕ) → A ≤ B → Within x A → Within x B
 within-mono x A B h w = (under-mono x A B h (w .0), w .1)
+
+-- a whole number as a float
+pub nat-within : (f : Format) (n A : ℕ) → n ≤ A → A ≤ 2 ^ prec f → Within (nat f n) A
+nat-within f n A l g = value-within (nat f n) n 1 A (zero-lt-suc 0) (nat-val f n (le-trans l g)) (omega arith)
 
 -- the format holds q * 2 ^ j, for q of no more digits than it keeps
 pub rep-scaled : (f : Format) (q j : ℕ) → q < 2 ^ prec f → q * 2 ^ (j + low f) < 2 ^ (low f + suc (emax f))
@@ -96,18 +101,10 @@ pub add-within : (f : Format) (x y : Float) (A B : ℕ) → Within x A → Withi
     → Within (add f x y) (A + B)
 add-within f x y A B h k r = (add-under f x y A B (h .0) (k .0) r, add-not-neg f x y (h .1) (k .1))
 
-pub mul-within : (f : Format) (x y : Float) (A B : ℕ) → Within x A → Within y B → Rep f (A * B)
-    → Within (mul f x y) (A * B)
-mul-within f x y A B h k r = (mul-under f x y A B (h .0) (k .0) r, mul-not-neg f x y (h .1) (k .1))
-
 pub square-within : (f : Format) (x : Float) (A : ℕ) → Under x A → Rep f (A * A) → Within (mul f x x) (A * A)
 square-within f x A h r = (mul-under f x x A A h h r, square-not-neg f x)
 
 -- ---- never nan, never infinite
-pub under-number : (x : Float) (A : ℕ) → Under x A → isNan x ≡ false
-unfolding isNan
-under-number (fin s m e) A h = refl
-
 -- an infinite limit is never reached
 pub under-bound : (x : Float) (A : ℕ) → Under x A → le (inf false) x ≡ false
 unfolding le lt eq

@@ -9,7 +9,7 @@ use lib.Ieee.Fits.{down-pos}
 use lib.Ieee.Exact.{HasValue}
 use lib.Ieee.Scale.{round-same}
 use lib.Ieee.Positive.{first-pos}
-use borrow.Author.Tests.{lt-ltb, le-ltb, ne-eqb}
+use borrow.Author.Tests.{le-ltb, ne-eqb}
 use Rattle.ieee.proofs.Fractions.{downs-pos, same-sum, same-difference, same-product, same-quotient, same-lt}
 
 pub add-at : (f : Format) (x y : Float) (a c b d : ℕ) → 0 < c → 0 < d → HasValue x false a c → HasValue y false b d
@@ -35,12 +35,6 @@ pub sub-at : (f : Format) (x y : Float) (a c b d : ℕ) → 0 < c → 0 < d → 
     → b * c ≤ a * d → sub f x y ≡ round f false (a * d - b * c) (c * d)
 unfolding sum
 sub-at f x y a c b d C D p q h = sub-sum f x y a c b d C D p q ∙ rw (le-ltb (a * d) (b * c) h) refl
-
--- where y is the larger
-pub sub-neg-at : (f : Format) (x y : Float) (a c b d : ℕ) → 0 < c → 0 < d → HasValue x false a c → HasValue y false b d
-    → a * d < b * c → sub f x y ≡ round f true (b * c - a * d) (c * d)
-unfolding sum
-sub-neg-at f x y a c b d C D p q h = sub-sum f x y a c b d C D p q ∙ rw (lt-ltb (a * d) (b * c) h) refl
 
 pub mul-at : (f : Format) (x y : Float) (a c b d : ℕ) → 0 < c → 0 < d → HasValue x false a c → HasValue y false b d
     → mul f x y ≡ round f false (a * b) (c * d)

@@ -14,11 +14,20 @@ use lib.Ieee.Order.{round-mono}
 use lib.Ieee.Positive.{through}
 use lib.Ieee.Exact.{HasValue}
 use borrow.Author.Tests.{le-ltb}
-use Rattle.ieee.specs.Bounds.{resign, NotNeg, Under, Within}
-use Rattle.ieee.specs.Growth.{Grows}
+use Rattle.ieee.specs.Bounds.{NotNeg, Under, Within}
 use Rattle.ieee.proofs.Fractions.{downs-pos, test-le}
-use Rattle.ieee.proofs.Signs.{round-resign, round-not-neg, round-cases, add-is, mul-not-neg}
+use Rattle.ieee.proofs.Signs.{resign, round-resign, round-not-neg, round-cases, add-is, mul-not-neg}
 use Rattle.ieee.proofs.Scaling.{fits-exact}
+
+-- y is at least x in size, whatever the signs; nan counts as larger than all
+abbrev pub Grows : Float → Float → Type 0
+Grows x nan = Unit {0}
+Grows nan (inf t) = ⊥
+Grows (inf s) (inf t) = Unit {0}
+Grows (fin s m e) (inf t) = Unit {0}
+Grows nan (fin t n d) = ⊥
+Grows (inf s) (fin t n d) = ⊥
+Grows (fin s m e) (fin t n d) = m * up e * down d ≤ n * up d * down e
 
 pub grows-refl : (x : Float) → Grows x x
 grows-refl nan = tt

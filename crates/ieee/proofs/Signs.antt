@@ -13,8 +13,14 @@ use lib.Ieee.Fits.{up-pos, and-l}
 use lib.Ieee.Exact.{HasValue}
 use lib.Ieee.Scale.{round-same}
 use borrow.Author.Tests.{ltb-false, le-ltb}
-use Rattle.ieee.specs.Bounds.{resign, Plus, NotNeg}
+use Rattle.ieee.specs.Bounds.{Plus, NotNeg}
 use Rattle.ieee.proofs.Fractions.{downs-pos}
+
+-- x with the sign s
+abbrev pub resign : Bool → Float → Float
+resign s nan = nan
+resign s (inf t) = inf s
+resign s (fin t m e) = fin s m e
 
 units-cases : (f : Format) (s t : Bool) (q k : ℕ) (P : Float → Float → Type 0) → P (inf s) (inf t)
     → ((m : ℕ) (e : ℤ) → P (fin s m e) (fin t m e)) → P (units f s q k) (units f t q k)
@@ -142,7 +148,3 @@ pub zero-bits : (f : Format) → ofBits f 0 ≡ fin false 0 (pos 0)
 unfolding ofBits
 zero-bits binary32 = refl
 zero-bits binary64 = refl
-
--- from the test as a branch has it
-pub not-neg-if : (f : Format) (x : Float) → le (ofBits f 0) x ≡ true → NotNeg x
-not-neg-if f x h = not-neg-of-test x (rw (← zero-bits f, h) tt)

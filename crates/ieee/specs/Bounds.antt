@@ -6,12 +6,6 @@ use Prim.Native.Nat.{ℕ, _*_, _≤_}
 use lib.Ieee.{Float, nan, inf, fin, Format, up, down, round}
 use lib.Ieee.Exact.{HasValue}
 
--- x with the sign s
-abbrev pub resign : Bool → Float → Float
-resign s nan = nan
-resign s (inf t) = inf s
-resign s (fin t m e) = fin s m e
-
 -- the sign is plus, or the number is 0
 abbrev pub Plus : Bool → ℕ → Type 0
 Plus s m = (s ≡ false) ⊎ (m ≡ 0)

@@ -1,11 +1,11 @@
 -- Of two accepted palettes of one width, height, depth and cache, the call list of one begins that of the other exactly when
 -- they are the same. Assumes nothing.
 use mathlib.Core.Path.{_≡_, refl, sym, _∙_}
-use mathlib.Core.Bool.{Bool, true, false, cond, not, _&&_, _||_}
-use mathlib.Core.List.{List, [], _∷_, _++_}
+use mathlib.Core.Bool.{Bool, true, false, cond, not, _||_}
+use mathlib.Core.List.{List, [], _∷_}
 use mathlib.Core.Logic.{_↔_}
 use Prim.Native.Nat.{ℕ}
-use lib.Dec.{ltb}
+use Rattle.counts.specs.Counts.{orientSent}
 use lib.ListN.{length}
 use Rattle.lists.specs.Counted.{bit}
 use Rattle.lists.proofs.Counted.{bit-injective}
@@ -26,7 +26,7 @@ use Rattle.listing.proofs.Map.{Fits, lines-splits}
 orient-splits : (w h : ℕ) (s t : Bool) → orientOk w h s ≡ true → orientOk w h t ≡ true
     → Splits (orientWords w h s) (orientWords w h t) (s ≡ t)
 unfolding orientOk orientWords
-orient-splits w h s t a b = go (ltb w 64 && ltb h 64) s t a b
+orient-splits w h s t a b = go (orientSent w h) s t a b
   where
     plain : (s : Bool) → not s || false ≡ true → s ≡ false
     plain true a = sym a

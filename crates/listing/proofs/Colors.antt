@@ -1,8 +1,8 @@
 -- The colours' words tell the colours. Assumes nothing.
 use mathlib.Core.Path.{_≡_, refl, sym, ap, _∙_}
 use mathlib.Core.Bool.{true}
-use mathlib.Core.List.{List, [], _∷_, _++_}
-use Prim.Native.Nat.{ℕ, _+_, _-_, _≤_, max}
+use mathlib.Core.List.{List, [], _∷_}
+use Prim.Native.Nat.{ℕ, _-_, _≤_}
 use native.Mathlib.Nat.{le-max-right}
 use native.Mathlib.Omega.{arith}
 use lib.ListN.{length}
@@ -10,9 +10,9 @@ use Rattle.lists.specs.Counted.{elem, bit, ascending}
 use Rattle.lists.proofs.Counted.{bit-injective}
 use Rattle.lists.proofs.Ascending.{Above, Ascending, ascending-is}
 use Rattle.counts.specs.Counts.{ceilLog2}
-use Rattle.literals.specs.Literals.{largestStep, stepBits, cutBits, stepWords, moreWords, literalWords}
+use Rattle.literals.specs.Literals.{largestStep, stepBits, stepWords, moreWords, literalWords}
 use Rattle.emit.specs.Colors.{remove, cacheWords, untaken, colorWords}
-use Rattle.emit.proofs.Untaken.{ascending-remove, ascending-untaken, length-remove, insert, restore}
+use Rattle.emit.proofs.Untaken.{ascending-remove, ascending-untaken, length-remove, restore}
 use Rattle.listing.proofs.Splits.{Splits, nil, cons, weaken, then}
 use Rattle.literals.proofs.Words.{word-injective}
 

@@ -2,7 +2,7 @@
 use mathlib.Core.Path.{_≡_, refl}
 use mathlib.Core.Bool.{Bool, true, false, cond, _&&_}
 use mathlib.Core.List.{List, [], _∷_, _++_}
-use Prim.Native.Nat.{ℕ, zero, suc, _+_, _*_, _≤_, _<_}
+use Prim.Native.Nat.{ℕ, zero, suc, _+_, _*_, _≤_}
 use native.Mathlib.Nat.{mul-le-mul}
 use native.Mathlib.Omega.{arith}
 use lib.Dec.{ltb}
@@ -18,7 +18,7 @@ use Rattle.accept.specs.Palette.{Palette}
 use Rattle.accept.specs.Accepted.{cacheOk, Accepted}
 use Rattle.accept.proofs.Accepted.{facts}
 use Rattle.emit.specs.Colors.{remove, cacheWords, untaken, colorWords}
-use Rattle.emit.specs.Map.{sentCells, lineWords, orientWords, mapWords}
+use Rattle.emit.specs.Map.{lineWords, orientWords, mapWords}
 use Rattle.emit.proofs.Untaken.{untaken-few}
 use Rattle.emit.proofs.Lines.{sent-few, line-length}
 use Rattle.listing.specs.Listing.{callList}

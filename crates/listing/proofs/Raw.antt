@@ -1,15 +1,14 @@
 -- What a map's words add to the raw width: the orientation bit, and the uniform call of cell (0,0). Assumes nothing.
 use mathlib.Core.Path.{_≡_, refl}
-use mathlib.Core.Bool.{Bool, true, false, cond, _&&_}
+use mathlib.Core.Bool.{Bool, true, false, cond}
 use mathlib.Core.List.{List, [], _∷_, _++_}
 use Prim.Native.Nat.{ℕ, zero, suc, _+_, _*_, _-_, _≤_, _<_}
 use native.Mathlib.Omega.{arith}
-use lib.Dec.{ltb}
 use lib.ListN.{length, getD}
 use borrow.Author.Tests.{ne-eqb}
 use Rattle.lists.specs.Counted.{upTo, bit}
 use Rattle.lists.proofs.Choice.{cond-same}
-use Rattle.counts.specs.Counts.{ceilLog2}
+use Rattle.counts.specs.Counts.{ceilLog2, orientSent}
 use Rattle.context.specs.Map.{cell, rowAt, colAt, linesOf, lengthOf}
 use Rattle.context.specs.Order.{byThree, around, rankOf}
 use Rattle.context.proofs.Around.{around-ok, around-ctx}
@@ -115,9 +114,9 @@ module _ (map : List ℕ) (w n : ℕ) (t : Bool) (lines len : ℕ) (inside : Lin
     raw-lines g first =
         omega (arith, raw-first (lineWords n t flags map w len) lines g raw-line, raw-first-line g first)
 
-raw-orient : (w h : ℕ) (t : Bool) → rawWidth (orientWords w h t) ≡ bit (ltb w 64 && ltb h 64)
+raw-orient : (w h : ℕ) (t : Bool) → rawWidth (orientWords w h t) ≡ bit (orientSent w h)
 unfolding orientWords rawWidth
-raw-orient w h t = go (ltb w 64 && ltb h 64)
+raw-orient w h t = go (orientSent w h)
   where
     go : (sent : Bool) → rawWidth (cond sent (word 1 1 (bit t) ∷ []) []) ≡ bit sent
     go true = omega (arith, raw-word 1 1 (bit t) (omega arith) (bit-small t))
@@ -126,7 +125,7 @@ raw-orient w h t = go (ltb w 64 && ltb h 64)
 pub raw-map : (map : List ℕ) (w h n : ℕ) (t : Bool) (flags : List ℕ)
     → LinesInside map w n t (linesOf t w h) (lengthOf t w h)
     → ((l : ℕ) → l < linesOf t w h → getD flags l 0 ≤ 2) → getD flags 0 0 ≤ 1 → 0 < linesOf t w h → 1 ≤ lengthOf t w h
-    → rawWidth (mapWords n t flags map w h) ≡ bit (ltb w 64 && ltb h 64) + ceilLog2 n
+    → rawWidth (mapWords n t flags map w h) ≡ bit (orientSent w h) + ceilLog2 n
 unfolding mapWords
 raw-map map w h n t flags inside small first some long =
     omega (

@@ -2,16 +2,14 @@
 use context::Index;
 use context::Level;
 ghost use mathlib.Core.Path.{_≡_};
-ghost use mathlib.Core.Bool.{_&&_};
 ghost use mathlib.Core.List.{_++_};
 ghost use Prim.Native.Nat.{ℕ, _+_, _*_, _≤_, _<_};
-ghost use lib.Dec.{ltb};
 ghost use lib.IntN.{pos};
 ghost use lib.Ieee.{binary32, ofInt};
 ghost use lib.ListN.{length, take, drop, getD};
 ghost use Rattle.lists.specs.Counted.{bit};
 ghost use Rattle.lists.specs.Written.{written};
-ghost use Rattle.counts.specs.Counts.{ceilLog2};
+ghost use Rattle.counts.specs.Counts.{ceilLog2, orientSent};
 ghost use Rattle.literals.specs.Words.{rawBits, rawWidth};
 ghost use Rattle.accept.specs.Palette.{paletteOf};
 ghost use Rattle.accept.specs.Accepted.{Accepted};
@@ -66,10 +64,10 @@ fn raw_width(words: &[u32], count: usize) -> u32
 // What the map's words add to the raw width: the orientation bit where it is sent, and the uniform call of cell (0,0).
 fn map_raw_width(width: usize, height: usize, n: usize) -> u32
     requires { ⌜ n ≤ 8 ⌝ }
-    ensures { λ r. ⌜ (r ≡ bit (ltb width 64 && ltb height 64) + ceilLog2 n) × (r ≤ 4) ⌝ }
+    ensures { λ r. ⌜ (r ≡ bit (orientSent width height) + ceilLog2 n) × (r ≤ 4) ⌝ }
 {
     let uniform = counts::ceil_log2(n as u32);
-    if (width < 64) & (height < 64) {
+    if counts::orient_sent(width, height) {
         return 1 + uniform;
     }
     uniform

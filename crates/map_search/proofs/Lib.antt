@@ -1,4 +1,14 @@
-pub mod Laws
 pub mod Scans
+pub mod Fill
+pub mod Neighbours
+pub mod LineCells
+pub mod Constants
+pub mod LineChoice
+pub mod PutLine
+pub mod Walk
 pub mod Stop
-pub mod Bound
+pub mod Sums
+pub mod CellBounds
+pub mod LineBounds
+pub mod WalkBounds
+pub mod FromInfinity

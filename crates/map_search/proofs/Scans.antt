@@ -1,5 +1,5 @@
 -- Both orientations of a block are sound scans. Assumes nothing.
-use Prim.Native.Nat.{ℕ, _+_, _*_, _-_, _/_, _%_, _≤_, _<_}
+use Prim.Native.Nat.{ℕ, _+_, _*_, _/_, _%_, _≤_, _<_}
 use mathlib.Core.Bool.{Bool, true, false, cond}
 use mathlib.Core.Path.{_≡_, refl, sym, ap, _∙_}
 use native.Mathlib.Omega.{arith}
@@ -9,6 +9,7 @@ use mathlib.Core.List.{List}
 use lib.ListN.{getD}
 use Rattle.map_search.specs.Lines.{scanOf, cellIn}
 use Rattle.map_search.specs.Sound.{Sound}
+use Rattle.map_search.specs.declared.Scan.{Scan}
 
 digits-same : (w l a k b : ℕ) → a < w → b < w → l * w + a ≡ k * w + b → (l ≡ k) × (a ≡ b)
 digits-same w l a k b p q e =
@@ -18,31 +19,45 @@ digits-same w l a k b p q e =
 small-product : (w h : ℕ) → w ≤ 64 → h ≤ 64 → w * h ≤ 4096
 small-product w h p q = omega (arith, mul-le-mul-right h p, mul-le-mul-left 64 q)
 
-pub rows-sound : (w h : ℕ) → 0 < w → w ≤ 64 → h ≤ 64 → Sound (scanOf w h false) (w * h)
-rows-sound w h z p q = record {
-  small = small-product w h p q;
-  some = z;
-  short = p;
-  few = q;
-  inside = λ l a g k. rw (mul-one a, mul-comm w h) (digits-lt g k);
-  apart = λ l a k b x y g i e. digits-same w l a k b g i (rw (mul-one a, mul-one b) at e);
+rows-sound : (w h : ℕ) → 0 < w → w ≤ 64 → h ≤ 64 → Sound (scanOf w h false) (w * h)
+rows-sound w h some wide high = record {
+  small = small-product w h wide high;
+  some = some;
+  short = wide;
+  few = high;
+  inside = λ l a on inside. rw (mul-one a, mul-comm w h) (digits-lt on inside);
+  apart = λ l a k b l-on k-on a-in b-in e. digits-same w l a k b a-in b-in (rw (mul-one a, mul-one b) at e);
   major = λ l a. rw (mul-one a) refl;
 }
 
-pub columns-sound : (w h : ℕ) → 0 < h → w ≤ 64 → h ≤ 64 → Sound (scanOf w h true) (w * h)
-columns-sound w h z p q = record {
-  small = small-product w h p q;
-  some = z;
-  short = q;
-  few = p;
-  inside = λ l a g k. rw (mul-one l, mul-comm w h, add-comm l) (digits-lt k g);
-  apart = λ l a k b x y g i e. (let d = digits-same w a l b k x y (rw (mul-one l, mul-one k, add-comm l, add-comm k) at e) in (d .1, d .0));
+columns-sound : (w h : ℕ) → 0 < h → w ≤ 64 → h ≤ 64 → Sound (scanOf w h true) (w * h)
+columns-sound w h some wide high = record {
+  small = small-product w h wide high;
+  some = some;
+  short = high;
+  few = wide;
+  inside = λ l a on inside. rw (mul-one l, mul-comm w h, add-comm l) (digits-lt inside on);
+  apart = λ l a k b l-on k-on a-in b-in e. (
+      let same = digits-same w a l b k l-on k-on (rw (mul-one l, mul-one k, add-comm l, add-comm k) at e) in
+      (same .1, same .0));
   major = λ l a. rw (mul-one l) (add-comm (a * w) l);
 }
 
 pub scan-sound : (w h : ℕ) (t : Bool) → 0 < w → w ≤ 64 → 0 < h → h ≤ 64 → Sound (scanOf w h t) (w * h)
-scan-sound w h true x p y q = columns-sound w h y p q
-scan-sound w h false x p y q = rows-sound w h x p q
+scan-sound w h true some-wide wide some-high high = columns-sound w h some-high wide high
+scan-sound w h false some-wide wide some-high high = rows-sound w h some-wide wide high
+
+-- a sound scan of N cells is one of more, too
+pub sound-mono : (s : Scan) (N M : ℕ) → Sound s N → N ≤ M → M ≤ 4096 → Sound s M
+sound-mono s N M sound more most = record {
+  small = most;
+  some = sound .some;
+  short = sound .short;
+  few = sound .few;
+  inside = λ l a on inside. omega (arith, sound .inside l a on inside);
+  apart = sound .apart;
+  major = sound .major;
+}
 
 -- a scan's cells by row and column, as the listing's acceptance reads them
 pub line-cell : (m : List ℕ) (w h : ℕ) (t : Bool) (l a : ℕ) → cellIn m (scanOf w h t) l a ≡ getD m (cond t a l * w + cond t l a) 0

@@ -12,42 +12,38 @@ use lib.ListN.{getD}
 use lib.Ieee.{Float, nan, binary32, sub, lt, le, fits, ofBits, ofInt}
 use lib.Ieee.Fits.{add-fits}
 use Rattle.ieee.specs.Bounds.{NotNeg}
-use Rattle.ieee.specs.Growth.{Grows}
+use Rattle.ieee.proofs.Growth.{Grows}
 use Rattle.ieee.proofs.Signs.{round-not-neg, add-not-neg, square-not-neg, mul-not-neg}
 use Rattle.ieee.proofs.Growth.{grows-refl, grows-trans, add-self, total-grows, stays}
 use Rattle.counts.specs.Counts.{uniformBits}
-use Rattle.cells.specs.Cell.{square, totalOf, plus, eight, squaresOf, ratesOf}
 use Rattle.cells.specs.declared.Cost.{Cost}
-use Rattle.map_search.specs.Lines.{cellAt, cellsOf, rowCost, lineOf, putLine}
+use Rattle.cells.specs.Cell.{square, totalOf, squaresOf, ratesOf}
+use Rattle.cells.proofs.Eight.{eight-each}
+use Rattle.map_search.specs.declared.Choice.{Choice}
+use Rattle.map_search.specs.declared.Scan.{Scan}
+use Rattle.map_search.specs.Lines.{Cells, cellAt, cellsOf, rowCost, lineOf, putLine}
 use Rattle.map_search.specs.Parts.{bestOf, Halted}
 use Rattle.map_search.specs.Sound.{Priced}
-use Rattle.map_search.specs.declared.Choice.{Choice}
-use Rattle.map_search.proofs.Laws.{settled, put-own}
-use Rattle.map_search.specs.declared.Scan.{Scan}
+use Rattle.map_search.proofs.LineChoice.{settled}
+use Rattle.map_search.proofs.PutLine.{put-own}
 
-eight-plus : (f : ℕ → Float) → ((i : ℕ) → NotNeg (f i)) → (i : ℕ) → NotNeg (getD (eight f) i nan)
-eight-plus f p zero = p 0
-eight-plus f p (suc zero) = p 1
-eight-plus f p (suc (suc zero)) = p 2
-eight-plus f p (suc (suc (suc zero))) = p 3
-eight-plus f p (suc (suc (suc (suc zero)))) = p 4
-eight-plus f p (suc (suc (suc (suc (suc zero))))) = p 5
-eight-plus f p (suc (suc (suc (suc (suc (suc zero)))))) = p 6
-eight-plus f p (suc (suc (suc (suc (suc (suc (suc zero))))))) = p 7
-eight-plus f p (suc (suc (suc (suc (suc (suc (suc (suc i)))))))) = tt
-
+-- ---- no square and no rate is negative
 squares-plus : (x : Float) (colours : List Float) (i : ℕ) → NotNeg (getD (squaresOf x colours) i nan)
 unfolding squaresOf
-squares-plus x colours i = eight-plus (λ j. square x (getD colours j nan)) (λ j. square-not-neg binary32 (sub binary32 x (getD colours j nan))) i
+squares-plus x colours i =
+    eight-each NotNeg (λ j. square x (getD colours j nan)) (λ j. square-not-neg binary32 (sub binary32 x (getD colours j nan))) tt i
 
 whole-plus : (k : ℕ) → NotNeg (ofInt binary32 (pos k))
 unfolding ofInt
 whole-plus k = round-not-neg binary32 false k 1 (zero-lt-suc 0) (inl refl)
 
-rates-plus : (costs : List Float) (n ctx : ℕ) (first : Bool) → ((i : ℕ) → NotNeg (getD costs i nan)) → (r : ℕ) → NotNeg (getD (ratesOf costs n ctx first) r nan)
+rates-plus : (costs : List Float) (n ctx : ℕ) (first : Bool) → ((i : ℕ) → NotNeg (getD costs i nan))
+    → (r : ℕ) → NotNeg (getD (ratesOf costs n ctx first) r nan)
 unfolding ratesOf
-rates-plus costs n ctx true p r = eight-plus (λ k. ofInt binary32 (pos (uniformBits k n))) (λ k. whole-plus (uniformBits k n)) r
-rates-plus costs n ctx false p r = eight-plus (λ k. getD costs (21 + ((n - 2) * 5 + ctx) * 8 + k) nan) (λ k. p (21 + ((n - 2) * 5 + ctx) * 8 + k)) r
+rates-plus costs n ctx true plus r = eight-each NotNeg (λ k. ofInt binary32 (pos (uniformBits k n))) (λ k. whole-plus (uniformBits k n)) tt r
+rates-plus costs n ctx false plus r =
+    let at : ℕ → ℕ = λ k. 21 + ((n - 2) * 5 + ctx) * 8 + k in
+    eight-each NotNeg (λ k. getD costs (at k) nan) (λ k. plus (at k)) tt r
 
 zero-sum : NotNeg (ofBits binary32 0)
 unfolding ofBits
@@ -57,82 +53,96 @@ zero-fits : T (fits binary32 (ofBits binary32 0))
 unfolding ofBits fits
 zero-fits = tt
 
+-- what grows by each step grows by several
 climb : (f : ℕ → Float) → ((k : ℕ) → Grows (f k) (f (suc k))) → (k j : ℕ) → k ≤ j → Grows (f k) (f j)
-climb f g k zero h = let e : k ≡ 0 = omega arith in rw e (grows-refl (f 0))
-climb f g k (suc j) h = elim (eq-or-lt-of-le h) [
+climb f step k zero h = let e : k ≡ 0 = omega arith in rw e (grows-refl (f 0))
+climb f step k (suc j) h = elim (eq-or-lt-of-le h) [
   | inl e ↦ rw e (grows-refl (f (suc j)))
-  | inr p ↦ grows-trans (f k) (f j) (f (suc j)) (climb f g k j (le-of-suc-le-suc p)) (g j)
+  | inr p ↦ grows-trans (f k) (f j) (f (suc j)) (climb f step k j (le-of-suc-le-suc p)) (step j)
 ]
 
-module _ (samples costs colours : List Float) (n : ℕ) (lambda : Float) (s : Scan) (P : Priced costs lambda) (m : List ℕ) (l : ℕ) (row : Float) (rp : NotNeg row) (rf : T (fits binary32 row)) where
-  dist-plus : (k : ℕ) → NotNeg (cellsOf samples costs colours n lambda s m l row k .cost .dist)
+module _ (samples costs colours : List Float) (n : ℕ) (lambda : Float) (s : Scan) (priced : Priced costs lambda)
+    (m : List ℕ) (l : ℕ) (row : Float) (row-plus : NotNeg row) (row-fits : T (fits binary32 row)) where
+  -- the cost of the first k cells
+  abbrev paid : ℕ → Cost
+  paid k = cellsOf samples costs colours n lambda s m l row k .cost
+
+  dist-plus : (k : ℕ) → NotNeg (paid k .dist)
   unfolding cellsOf cellAt
   dist-plus zero = zero-sum
   dist-plus (suc k) = add-not-neg binary32 _ _ (dist-plus k) (squares-plus _ colours _)
 
-  rate-plus : (k : ℕ) → NotNeg (cellsOf samples costs colours n lambda s m l row k .cost .rate)
+  rate-plus : (k : ℕ) → NotNeg (paid k .rate)
   unfolding cellsOf cellAt
-  rate-plus zero = rp
-  rate-plus (suc k) = add-not-neg binary32 _ _ (rate-plus k) (rates-plus costs n _ _ (P .plus) _)
+  rate-plus zero = row-plus
+  rate-plus (suc k) = add-not-neg binary32 _ _ (rate-plus k) (rates-plus costs n _ _ (priced .plus) _)
 
-  dist-fits : (k : ℕ) → T (fits binary32 (cellsOf samples costs colours n lambda s m l row k .cost .dist))
+  dist-fits : (k : ℕ) → T (fits binary32 (paid k .dist))
   unfolding cellsOf cellAt
   dist-fits zero = zero-fits
   dist-fits (suc k) = add-fits binary32 _ _
 
-  rate-fits : (k : ℕ) → T (fits binary32 (cellsOf samples costs colours n lambda s m l row k .cost .rate))
+  rate-fits : (k : ℕ) → T (fits binary32 (paid k .rate))
   unfolding cellsOf cellAt
-  rate-fits zero = rf
+  rate-fits zero = row-fits
   rate-fits (suc k) = add-fits binary32 _ _
 
-  dist-step : (k : ℕ) → Grows (cellsOf samples costs colours n lambda s m l row k .cost .dist) (cellsOf samples costs colours n lambda s m l row (suc k) .cost .dist)
+  dist-step : (k : ℕ) → Grows (paid k .dist) (paid (suc k) .dist)
   unfolding cellsOf cellAt
   dist-step k = add-self binary32 _ _ (dist-plus k) (squares-plus _ colours _) (dist-fits k)
 
-  rate-step : (k : ℕ) → Grows (cellsOf samples costs colours n lambda s m l row k .cost .rate) (cellsOf samples costs colours n lambda s m l row (suc k) .cost .rate)
+  rate-step : (k : ℕ) → Grows (paid k .rate) (paid (suc k) .rate)
   unfolding cellsOf cellAt
-  rate-step k = add-self binary32 _ _ (rate-plus k) (rates-plus costs n _ _ (P .plus) _) (rate-fits k)
+  rate-step k = add-self binary32 _ _ (rate-plus k) (rates-plus costs n _ _ (priced .plus) _) (rate-fits k)
 
-  dist-grows : (k j : ℕ) → k ≤ j → Grows (cellsOf samples costs colours n lambda s m l row k .cost .dist) (cellsOf samples costs colours n lambda s m l row j .cost .dist)
-  dist-grows k j h = climb (λ i. cellsOf samples costs colours n lambda s m l row i .cost .dist) dist-step k j h
-
-  rate-grows : (k j : ℕ) → k ≤ j → Grows (cellsOf samples costs colours n lambda s m l row k .cost .rate) (cellsOf samples costs colours n lambda s m l row j .cost .rate)
-  rate-grows k j h = climb (λ i. cellsOf samples costs colours n lambda s m l row i .cost .rate) rate-step k j h
-
-  total-plus : (k : ℕ) → NotNeg (totalOf (cellsOf samples costs colours n lambda s m l row k .cost) lambda)
-  total-plus k = add-not-neg binary32 _ _ (dist-plus k) (mul-not-neg binary32 lambda _ (P .mild .1) (rate-plus k))
+  total-plus : (k : ℕ) → NotNeg (totalOf (paid k) lambda)
+  total-plus k = add-not-neg binary32 _ _ (dist-plus k) (mul-not-neg binary32 lambda _ (priced .mild .1) (rate-plus k))
 
   -- once the limit is reached it stays so
-  pub never-wins : (limit : Float) (k j : ℕ) → k ≤ j → le limit (totalOf (cellsOf samples costs colours n lambda s m l row k .cost) lambda) ≡ true
-      → lt (totalOf (cellsOf samples costs colours n lambda s m l row j .cost) lambda) limit ≡ false
+  pub never-wins : (limit : Float) (k j : ℕ) → k ≤ j → le limit (totalOf (paid k) lambda) ≡ true → lt (totalOf (paid j) lambda) limit ≡ false
   never-wins limit k j h e =
       stays limit _ _ e (total-plus k) (total-plus j)
-      (total-grows binary32 lambda _ _ _ _ (2 ^ 20) (P .mild) (dist-plus k) (dist-plus j) (rate-plus k) (rate-plus j) (dist-grows k j h) (rate-grows k j h))
+      (total-grows binary32 lambda _ _ _ _ (2 ^ 20) (priced .mild) (dist-plus k) (dist-plus j) (rate-plus k) (rate-plus j)
+      (climb (λ i. paid i .dist) dist-step k j h) (climb (λ i. paid i .rate) rate-step k j h))
 
--- what the code settles on, with cells that may have stopped
-module _ (samples costs colours : List Float) (n : ℕ) (lambda : Float) (s : Scan) (P : Priced costs lambda) (two : 2 ≤ n) (m : List ℕ) (l ctx : ℕ) (O : Cost) (B : Choice) (M : List ℕ) (limit : Float)
-    (b : B ≡ bestOf samples costs colours n lambda s m l ctx) (x : limit ≡ totalOf (B .cost) lambda) (H : Halted samples costs colours n lambda s m l (rowCost costs ctx 0) limit O M) where
-  reached : le limit (totalOf O lambda) ≡ true → (j : ℕ) → H .cells ≤ j → lt (totalOf (cellsOf samples costs colours n lambda s m l (rowCost costs ctx 0) j .cost) lambda) limit ≡ false
-  reached r j h = never-wins samples costs colours n lambda s P m l (rowCost costs ctx 0) (P .plus _) (H .held) limit (H .cells) j h (rw (H .cost) at r)
+-- what the code settles on, with cells that may have stopped: their cost and map against the other candidate
+module _ (samples costs colours : List Float) (n : ℕ) (lambda : Float) (s : Scan) (priced : Priced costs lambda) (two : 2 ≤ n)
+    (m : List ℕ) (l ctx : ℕ) (cost : Cost) (other : Choice) (map : List ℕ) (limit : Float)
+    (is-best : other ≡ bestOf samples costs colours n lambda s m l ctx) (is-limit : limit ≡ totalOf (other .cost) lambda)
+    (halted : Halted samples costs colours n lambda s m l (rowCost costs ctx 0) limit cost map) where
+  abbrev cells : ℕ → Cells
+  cells k = cellsOf samples costs colours n lambda s m l (rowCost costs ctx 0) k
 
-  whole : H .cells ≡ s .len → O ≡ cellsOf samples costs colours n lambda s m l (rowCost costs ctx 0) (s .len) .cost
-  whole e = H .cost ∙ ap (λ (k : ℕ). cellsOf samples costs colours n lambda s m l (rowCost costs ctx 0) k .cost) e
+  abbrev own : Choice
+  own = record { cost = cost; flag = 0; index = 0 }
 
-  pub own-wins : lt (totalOf O lambda) limit ≡ true
-      → (record { cost = O; flag = 0; index = 0 } ≡ lineOf samples costs colours n lambda s m l ctx) × (M ≡ putLine samples costs colours n lambda s m l ctx (record { cost = O; flag = 0; index = 0 }))
-  own-wins t = go (H .why)
+  abbrev line : Choice
+  line = lineOf samples costs colours n lambda s m l ctx
+
+  reached : le limit (totalOf cost lambda) ≡ true → (j : ℕ) → halted .cells ≤ j → lt (totalOf (cells j .cost) lambda) limit ≡ false
+  reached r j h =
+      never-wins samples costs colours n lambda s priced m l (rowCost costs ctx 0) (priced .plus _) (halted .held) limit (halted .cells) j h
+      (rw (halted .cost) at r)
+
+  whole : halted .cells ≡ s .len → cost ≡ cells (s .len) .cost
+  whole e = halted .cost ∙ ap (λ (k : ℕ). cells k .cost) e
+
+  pub own-wins : lt (totalOf cost lambda) limit ≡ true → (own ≡ line) × (map ≡ putLine samples costs colours n lambda s m l ctx own)
+  own-wins less = by-reason (halted .why)
     where
-      go : (H .cells ≡ s .len) ⊎ (le limit (totalOf O lambda) ≡ true)
-          → (record { cost = O; flag = 0; index = 0 } ≡ lineOf samples costs colours n lambda s m l ctx) × (M ≡ putLine samples costs colours n lambda s m l ctx (record { cost = O; flag = 0; index = 0 }))
-      go (inl e) = (
-        settled samples costs colours n lambda s (omega arith) m l ctx O B b (whole e) true (rw x at t),
-        H .put ∙ ap (λ (k : ℕ). cellsOf samples costs colours n lambda s m l (rowCost costs ctx 0) k .map) e ∙ put-own samples costs colours n lambda s m l ctx O,
+      by-reason : (halted .cells ≡ s .len) ⊎ (le limit (totalOf cost lambda) ≡ true)
+          → (own ≡ line) × (map ≡ putLine samples costs colours n lambda s m l ctx own)
+      by-reason (inl e) = (
+        settled samples costs colours n lambda s m l ctx (omega arith) cost other is-best (whole e) true (rw is-limit at less),
+        halted .put ∙ ap (λ (k : ℕ). cells k .map) e ∙ put-own samples costs colours n lambda s m l ctx cost,
       )
-      go (inr r) = absurd (true≢false (sym t ∙ (rw (← H .cost) at (reached r (H .cells) (omega arith)))))
+      by-reason (inr r) = absurd (true≢false (sym less ∙ (rw (← halted .cost) at (reached r (halted .cells) (omega arith)))))
 
-  pub own-loses : lt (totalOf O lambda) limit ≡ false → B ≡ lineOf samples costs colours n lambda s m l ctx
-  own-loses t = settled samples costs colours n lambda s (omega arith) m l ctx (cellsOf samples costs colours n lambda s m l (rowCost costs ctx 0) (s .len) .cost) B b refl false (rw x at (go (H .why)))
+  pub own-loses : lt (totalOf cost lambda) limit ≡ false → other ≡ line
+  own-loses not-less =
+      settled samples costs colours n lambda s m l ctx (omega arith) (cells (s .len) .cost) other is-best refl false
+      (rw is-limit at (by-reason (halted .why)))
     where
-      go : (H .cells ≡ s .len) ⊎ (le limit (totalOf O lambda) ≡ true) → lt (totalOf (cellsOf samples costs colours n lambda s m l (rowCost costs ctx 0) (s .len) .cost) lambda) limit ≡ false
-      go (inl e) = rw (whole e) at t
-      go (inr r) = reached r (s .len) (H .few)
+      by-reason : (halted .cells ≡ s .len) ⊎ (le limit (totalOf cost lambda) ≡ true) → lt (totalOf (cells (s .len) .cost) lambda) limit ≡ false
+      by-reason (inl e) = rw (whole e) at not-less
+      by-reason (inr r) = reached r (s .len) (halted .few)

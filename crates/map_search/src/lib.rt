@@ -209,7 +209,7 @@ fn best_const(
 }
 
 // The neighbours of cell a of line l.
-fn near_cell(map: &[u8], s: Scan, l: usize, a: usize) -> near::Near
+fn near_cell(map: &[u8], s: Scan, l: usize, a: usize) -> context::Near
     requires { ⌜ rowAt (s .transposed) l a * s .w + colAt (s .transposed) l a < length (now map) ⌝ }
     ensures { λ r. ⌜ r ≡ nearAt (now (map .entry)) (s .w) (rowAt (s .transposed) l a) (colAt (s .transposed) l a) ⌝ }
 {

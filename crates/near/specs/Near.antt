@@ -1,37 +1,24 @@
--- The context and the neighbours as the code holds them, and how that is `around`. Assumes nothing.
+-- The context and the neighbours of a cell as the map search holds them, and what it needs of them. Assumes nothing.
 use Prim.Native.Nat.{ℕ, zero, suc, _+_, _≤_, _<_}
-use mathlib.Core.Bool.{Bool, true, false, cond}
+use mathlib.Core.Bool.{false, cond}
 use mathlib.Core.Path.{_≡_}
 use mathlib.Core.List.{List, [], _∷_}
 use lib.Dec.{eqb, ltb}
 use lib.ListN.{getD, take, length}
 use Rattle.lists.specs.Counted.{elem}
-use Rattle.context.specs.Map.{cell}
-use Rattle.context.specs.Order.{others, Around}
-use Rattle.near.specs.declared.Near.{Near}
+use Rattle.context.specs.Order.{Around, byThree, around, others}
+use Rattle.context.specs.Parts.{held}
+use Rattle.context.specs.declared.Near.{Near}
 
+-- index v alone comes first
 abbrev pub one : ℕ → Near
-one v = record { ctx = 0; count = 1; a = v; b = 0; c = 0 }
-
-abbrev pub two : ℕ → ℕ → ℕ → Near
-two ctx a b = record { ctx = ctx; count = 2; a = a; b = b; c = 0 }
-
-abbrev pub byTests : Bool → Bool → Bool → ℕ → ℕ → ℕ → Near
-byTests true true e left top diag = record { ctx = 4; count = 1; a = left; b = 0; c = 0 }
-byTests true false e left top diag = two 3 left diag
-byTests false true e left top diag = two 2 left top
-byTests false false true left top diag = two 2 top left
-byTests false false false left top diag = record { ctx = 1; count = 3; a = left; b = top; c = diag }
-
-unfoldable pub nearOf : ℕ → ℕ → ℕ → Near
-nearOf left top diag = byTests (eqb left top) (eqb left diag) (eqb diag top) left top diag
+one v = held (record { ctx = 0; firsts = v ∷ [] })
 
 -- at a cell; at (0,0) index 0 comes first, which is the index order
 unfoldable pub nearAt : List ℕ → ℕ → ℕ → ℕ → Near
 nearAt m w zero zero = one 0
-nearAt m w zero (suc x) = one (cell m w zero x)
-nearAt m w (suc y) zero = one (cell m w y zero)
-nearAt m w (suc y) (suc x) = nearOf (cell m w (suc y) x) (cell m w y (suc x)) (cell m w y x)
+nearAt m w zero (suc x) = held (around byThree m w zero (suc x))
+nearAt m w (suc y) x = held (around byThree m w (suc y) x)
 
 -- the neighbours' indices
 abbrev pub firstsOf : Near → List ℕ

@@ -1,56 +1,28 @@
 -- The error of a size is finite, as an f64 and as an f32: a group costs less than 2 ^ 37, and there are at most 8.
 use mathlib.Core.Path.{_≡_, refl, sym, subst}
-use mathlib.Core.Logic.{_⊎_, inl, inr}
-use mathlib.Core.Bool.{true, false}
+use mathlib.Core.Logic.{inl, inr}
+use mathlib.Core.Bool.{false}
 use mathlib.Core.List.{List}
 use Prim.Native.Nat.{ℕ, zero, suc, _+_, _-_, _*_, _^_, _≤_, _<_, zero-le}
-use native.Mathlib.Nat.{add-zero, suc-mul, le-refl, le-trans, le-of-lt, mul-le-mul, mul-le-mul-left, mul-le-mul-right}
-use native.Mathlib.Nat.{mul-lt-mul-of-pos-right}
+use native.Mathlib.Nat.{add-zero, suc-mul, le-refl, le-trans, mul-le-mul, mul-le-mul-left, mul-le-mul-right}
 use native.Mathlib.Omega.{arith}
 use lib.Dec.{lit≤, lit<}
-use lib.Ieee.{Float, inf, fin, binary32, binary64, up, down, add, lt, round, ofBits}
+use lib.Ieee.{Float, binary64, add, lt, ofBits}
 use lib.Ieee.Back.{round-whole}
-use lib.Ieee.Fits.{down-pos}
-use lib.Ieee.Positive.{num, den, den-pos}
-use borrow.Author.Tests.{lt-ltb}
 use Rattle.lists.proofs.Choice.{either-way}
 use Rattle.ieee.specs.Bounds.{Under, Rep}
 use Rattle.ieee.proofs.Numbers.{nat-is}
-use Rattle.ieee.proofs.Bounds.{round-le, rep-scaled, add-under, sub-under, under-lt, under-mono}
+use Rattle.ieee.proofs.Bounds.{round-le, add-under, sub-under, under-lt, under-mono}
 use Rattle.samples.specs.Narrow.{narrowOf}
 use Rattle.groups.specs.declared.Best.{Best}
 use Rattle.groups.specs.declared.Histogram.{Histogram}
 use Rattle.groups.specs.Histogram.{IsHistogram}
-use Rattle.groups.specs.Groups.{prefixOf, costOf, cheaper, firstOf, costIn, sumIn, errorOf}
+use Rattle.groups.specs.Groups.{prefixOf, costOf, firstOf, costIn, sumIn, errorOf}
 use Rattle.groups.proofs.Means.{weight, mean-below, cells-to, squares-to}
 use Rattle.groups.proofs.Exact.{cost-rounded}
+use Rattle.search.proofs.Narrow.{narrow-under}
+use Rattle.search.proofs.Mild.{Mild, add-mild, cheaper-mild, cheaper-under}
 
--- ---- a finite value, or +infinity: what levels that cannot be cut into so many groups cost
-abbrev Mild : ℕ → Float → Type 0
-Mild A x = Under x A ⊎ (x ≡ inf false)
-
-inf-add : (y : Float) (B : ℕ) → Under y B → add binary64 (inf false) y ≡ inf false
-unfolding add
-inf-add (fin s m e) B u = refl
-
-inf-lt : (y : Float) (B : ℕ) → Under y B → lt (inf false) y ≡ false
-unfolding lt
-inf-lt (fin s m e) B u = refl
-
-add-mild : (x y : Float) (A B : ℕ) → Mild A x → Under y B → Rep binary64 (A + B) → Mild (A + B) (add binary64 x y)
-add-mild x y A B (inl u) v r = inl (add-under binary64 x y A B u v r)
-add-mild x y A B (inr e) v r = inr (rw e (inf-add y B v))
-
-cheaper-mild : (A : ℕ) (b : Best) (c : Float) (i : ℕ) → Mild A (b .cost) → Mild A c → Mild A (cheaper b c i .cost)
-cheaper-mild A b c i p q = either-way (λ x. Mild A (x .cost)) (lt c (b .cost)) (record { cost = c; cut = i }) b q p
-
--- +infinity never replaces a finite cost
-cheaper-under : (A : ℕ) (b : Best) (c : Float) (i : ℕ) → Under (b .cost) A → Mild A c → Under (cheaper b c i .cost) A
-cheaper-under A b c i p (inl q) =
-    either-way (λ x. Under (x .cost) A) (lt c (b .cost)) (record { cost = c; cut = i }) b q p
-cheaper-under A b c i p (inr e) = rw (e, inf-lt (b .cost) A p) p
-
--- ---- the programme
 -- the most that a sum of squares is, and the most that a group costs
 abbrev squares : ℕ
 squares = 4095 * 4095 * 4096
@@ -58,26 +30,28 @@ squares = 4095 * 4095 * 4096
 abbrev most : ℕ
 most = squares + squares
 
-square-le : (S W : ℕ) → S ≤ 4095 * W → W ≤ 4096 → S * S ≤ squares * W
-square-le S W p q =
-    let a : 4095 * W * (4095 * W) ≤ squares * W = omega (arith, mul-le-mul-left (4095 * 4095 * W) q) in
-    le-trans (mul-le-mul p p) a
+square-le : (sum count : ℕ) → sum ≤ 4095 * count → count ≤ 4096 → sum * sum ≤ squares * count
+square-le sum count mean cells =
+    let most-square : 4095 * count * (4095 * count) ≤ squares * count =
+    omega (arith, mul-le-mul-left (4095 * 4095 * count) cells) in
+    le-trans (mul-le-mul mean mean) most-square
 
 module _ (v : List ℕ) (h : Histogram) (is : IsHistogram v h) where
   abbrev costAt : ℕ → ℕ → Float
   costAt i j = costOf (prefixOf (h .w)) (prefixOf (h .s)) (prefixOf (h .q)) i j
 
   cost-under : (i j : ℕ) → i < j → j ≤ h .n → Under (costAt i j) most
-  cost-under i j o l =
-      let b : j ≤ 32 = le-trans l (is .few) in
-      let W : sumIn (h .w) i j ≤ 4096 = omega (arith, cells-to v h is j b) in
-      let Q : sumIn (h .q) i j ≤ squares = omega (arith, squares-to v h is j, cells-to v h is j b) in
-      let S : sumIn (h .s) i j ≤ 4095 * sumIn (h .w) i j = mean-below v h is i j o l 4095 (λ t f g. is .top t) in
-      let SS = square-le (sumIn (h .s) i j) (sumIn (h .w) i j) S W in
+  cost-under i j before last =
+      let few : j ≤ 32 = le-trans last (is .few) in
+      let count = sumIn (h .w) i j in
+      let sum = sumIn (h .s) i j in
+      let cells : count ≤ 4096 = omega (arith, cells-to v h is j few) in
+      let most-squares : sumIn (h .q) i j ≤ squares = omega (arith, squares-to v h is j, cells-to v h is j few) in
+      let mean : sum ≤ 4095 * count = mean-below v h is i j before last 4095 (λ t f g. is .top t) in
       let held = round-whole binary64 false squares (lit≤ tt) in
-      rw (cost-rounded v h is i j o l, nat-is binary64 (sumIn (h .q) i j))
+      rw (cost-rounded v h is i j before last, nat-is binary64 (sumIn (h .q) i j))
       (sub-under binary64 _ _ squares squares (round-le binary64 false _ 1 squares (lit< tt) (omega arith) held)
-      (round-le binary64 false _ _ squares (weight v h is i j o l) SS held)
+      (round-le binary64 false _ _ squares (weight v h is i j before last) (square-le sum count mean cells) held)
       (round-whole binary64 false most (lit≤ tt)))
 
   -- the cuts of the first j levels after k, where those before a cut cost at most A or cannot be had
@@ -152,27 +126,6 @@ module _ (v : List ℕ) (h : Histogram) (is : IsHistogram v h) where
       let cost = leastIn (suc k) (h .n) in
       either-way (λ x. Under x (suc k * most)) (lt (ofBits binary64 0) cost) cost (ofBits binary64 0)
       (programme-next k (h .n) l g (le-refl (h .n)) (programme-each k (omega arith) (omega arith))) zero-le
-
--- ---- as an f32
-below-40 : (x : Float) (A : ℕ) → Under x A → A < 2 ^ 40 → lt x (ofBits binary64 0x4270_0000_0000_0000) ≡ true
-unfolding lt ofBits
-below-40 (fin false m e) A u l =
-    lt-ltb (m * up e * 1) (2 ^ 40 * down e) (omega (arith, mul-lt-mul-of-pos-right l (down-pos e)))
-below-40 (fin true m e) A u l = lt-ltb 0 (m * up e * 1 + 2 ^ 40 * down e) (omega (arith, down-pos e))
-
-narrow-under : (x : Float) (A : ℕ) → Under x A → A < 2 ^ 40 → Under (narrowOf x) (2 ^ 40)
-unfolding ofBits
-narrow-under x A u l =
-    let rounded = round binary32 false (num x) (den x) in
-    rw (below-40 x A u l)
-    (either-way (λ y. Under y (2 ^ 40)) (lt (ofBits binary64 0) x) rounded (ofBits binary32 0)
-    (round-le binary32 false (num x) (den x) (2 ^ 40) (den-pos x) (size x A u (le-of-lt l)) held) zero-le)
-  where
-    size : (x : Float) (A : ℕ) → Under x A → A ≤ 2 ^ 40 → num x ≤ 2 ^ 40 * den x
-    size (fin s m e) A u l = le-trans u (mul-le-mul-right (down e) l)
-
-    held : Rep binary32 (2 ^ 40)
-    held = rep-scaled binary32 1 40 (lit< tt) (lit< tt)
 
 -- the error of a size, where the histogram has that many levels
 pub error-narrow : (v : List ℕ) (h : Histogram) → IsHistogram v h → (k : ℕ) → 0 < k → k ≤ 8 → k ≤ h .n

@@ -1,9 +1,15 @@
 pub mod Eight
-pub mod Errors
-pub mod Heads
+pub mod Zeros
 pub mod Lengths
+pub mod Mild
+pub mod Narrow
+pub mod Errors
+pub mod Colors
+pub mod Heads
+pub mod Kept
 pub mod Finds
 pub mod Passed
 pub mod Tries
 pub mod Walk
+pub mod Aside
 pub mod Answer

@@ -1,21 +1,20 @@
 -- The number 0: every test of the search has passed. Assumes nothing.
 use mathlib.Core.Path.{_≡_, refl}
-use mathlib.Core.Bool.{Bool, true, false, cond}
-use mathlib.Core.List.{List, map}
-use Prim.Native.Nat.{ℕ, _*_, max, _≤_}
+use mathlib.Core.Bool.{Bool, true, false, cond, not}
+use mathlib.Core.List.{List}
+use Prim.Native.Nat.{ℕ, suc, _*_, max, _≤_}
 use native.Mathlib.Omega.{arith}
-use borrow.Author.Tests.{eqb-true, eqb-false, leb-true}
-use lib.Dec.{eqb, leb}
+use borrow.Author.Tests.{eqb-true, eqb-false, ltb-false, leb-true, not-false}
+use lib.Dec.{eqb, ltb, leb}
 use lib.ListN.{length}
 use lib.Ieee.{Float}
-use Rattle.lists.proofs.Choice.{held, and-l, and-r}
+use Rattle.lists.proofs.Choice.{passed, and-l, and-r}
 use Rattle.lists.proofs.Counted.{within-at}
 use Rattle.accept.specs.Accepted.{sidesOk, depthOk}
 use Rattle.accept.proofs.Accepted.{sides-at}
-use Rattle.samples.specs.Samples.{lambdaOk, costsOk, samplesOk, levelOf}
-use Rattle.groups.specs.Histogram.{histogramOf}
+use Rattle.samples.specs.Samples.{lambdaOk, costsOk, samplesOk}
 use Rattle.sizes.specs.declared.Block.{Block}
-use Rattle.search.specs.Search.{roomsOk, faultOf, levelsFault, searchNumber}
+use Rattle.search.specs.Search.{histogramIn, roomsOk, faultOf, levelsFault, searchNumber}
 use Rattle.search.specs.Steps.{Ready}
 
 -- a fault that is 0 leaves what follows it; any other is the number itself
@@ -26,6 +25,12 @@ no-fault fault next e = go (eqb fault 0) refl e
     go true z e = (eqb-true fault 0 z, e)
     go false z e = absurd (eqb-false fault 0 z e)
 
+-- a test that refuses where it fails has passed, and what follows it gives 0
+held : (t : Bool) (k x : ℕ) → cond (not t) (suc k) x ≡ 0 → (t ≡ true) × (x ≡ 0)
+held t k x e =
+    let p = passed (not t) k x e in
+    (not-false t (p .0), p .1)
+
 -- 1 to 8
 pub ready-of-zero : (samples costs : List Float) (b : Block) (cells lines : ℕ)
     → faultOf samples costs b cells lines ≡ 0 → Ready samples costs b cells lines
@@ -33,28 +38,28 @@ unfolding faultOf depthOk
 ready-of-zero samples costs b cells lines e =
     let w = b .width in
     let h = b .height in
-    let s = held (sidesOk w h) 0 _ e in
-    let d = held (depthOk (b .bd)) 1 _ (s .1) in
-    let c = held (eqb (length samples) (w * h)) 2 _ (d .1) in
-    let l = held (lambdaOk (b .lambda)) 3 _ (c .1) in
-    let p = held (costsOk costs) 4 _ (l .1) in
-    let x = held (samplesOk (b .bd) samples) 5 _ (p .1) in
-    let r = held (roomsOk w h cells lines) 6 _ (x .1) in
-    let sides = sides-at w h (s .0) in
-    let depth = within-at 8 12 (b .bd) (d .0) in
-    let long = leb-true (max w h) lines (and-r (leb (w * h) cells) (leb (max w h) lines) (r .0)) in
+    let sides = held (sidesOk w h) 0 _ e in
+    let depth = held (depthOk (b .bd)) 1 _ (sides .1) in
+    let count = held (eqb (length samples) (w * h)) 2 _ (depth .1) in
+    let lambda = held (lambdaOk (b .lambda)) 3 _ (count .1) in
+    let prices = held (costsOk costs) 4 _ (lambda .1) in
+    let values = held (samplesOk (b .bd) samples) 5 _ (prices .1) in
+    let rooms = held (roomsOk w h cells lines) 6 _ (values .1) in
+    let within-sides = sides-at w h (sides .0) in
+    let within-depth = within-at 8 12 (b .bd) (depth .0) in
+    let long = leb-true (max w h) lines (and-r (leb (w * h) cells) (leb (max w h) lines) (rooms .0)) in
     record {
-      wide = sides .0 .0;
-      wideMost = sides .0 .1;
-      high = sides .1 .0;
-      highMost = sides .1 .1;
-      deep = depth .0;
-      deepMost = depth .1;
-      count = eqb-true (length samples) (w * h) (c .0);
-      weight = l .0;
-      priced = p .0;
-      sampled = x .0;
-      room = leb-true (w * h) cells (and-l (leb (w * h) cells) (leb (max w h) lines) (r .0));
+      wide = within-sides .0 .0;
+      wideMost = within-sides .0 .1;
+      high = within-sides .1 .0;
+      highMost = within-sides .1 .1;
+      deep = within-depth .0;
+      deepMost = within-depth .1;
+      count = eqb-true (length samples) (w * h) (count .0);
+      weight = lambda .0;
+      priced = prices .0;
+      sampled = values .0;
+      room = leb-true (w * h) cells (and-l (leb (w * h) cells) (leb (max w h) lines) (rooms .0));
       columns = omega (arith, long);
       rows = omega (arith, long);
     }
@@ -62,15 +67,15 @@ ready-of-zero samples costs b cells lines e =
 -- 9 and 10
 pub levels-of-zero : (levels : ℕ) → levelsFault levels ≡ 0 → (2 ≤ levels) × (levels ≤ 32)
 levels-of-zero levels e =
-    let two = held (leb 2 levels) 8 _ e in
-    let most = held (leb levels 32) 9 _ (two .1) in
-    (leb-true 2 levels (two .0), leb-true levels 32 (most .0))
+    let two = passed (ltb levels 2) 8 _ e in
+    let few = passed (ltb 32 levels) 9 _ (two .1) in
+    (ltb-false levels 2 (two .0), ltb-false 32 levels (few .0))
 
 -- all of them
-pub ready : (samples costs : List Float) (b : Block) (cells lines : ℕ) → searchNumber samples costs b cells lines ≡ 0
-    → let n = histogramOf (map levelOf samples) .n in Ready samples costs b cells lines × (2 ≤ n) × (n ≤ 32)
+pub all-passed : (samples costs : List Float) (b : Block) (cells lines : ℕ) → searchNumber samples costs b cells lines ≡ 0
+    → let n = histogramIn samples .n in Ready samples costs b cells lines × (2 ≤ n) × (n ≤ 32)
 unfolding searchNumber
-ready samples costs b cells lines e =
-    let z = no-fault (faultOf samples costs b cells lines) (levelsFault (histogramOf (map levelOf samples) .n)) e in
-    let n = levels-of-zero (histogramOf (map levelOf samples) .n) (z .1) in
-    (ready-of-zero samples costs b cells lines (z .0), n .0, n .1)
+all-passed samples costs b cells lines e =
+    let zeros = no-fault (faultOf samples costs b cells lines) (levelsFault (histogramIn samples .n)) e in
+    let n = levels-of-zero (histogramIn samples .n) (zeros .1) in
+    (ready-of-zero samples costs b cells lines (zeros .0), n .0, n .1)

@@ -1,8 +1,8 @@
 -- One map of a size: what it needs, and what stands after it. Assumes nothing.
-use mathlib.Core.Path.{_≡_, refl, sym, ap, _∙_}
-use mathlib.Core.Bool.{Bool, true, false, cond}
-use mathlib.Core.List.{List, _∷_, map}
-use Prim.Native.Nat.{ℕ, zero, suc, _*_, _≤_}
+use mathlib.Core.Path.{_≡_, refl, ap, _∙_}
+use mathlib.Core.Bool.{Bool, true, false}
+use mathlib.Core.List.{List, map}
+use Prim.Native.Nat.{ℕ, _*_, _≤_}
 use native.Mathlib.Omega.{arith}
 use native.Mathlib.Nat.{mul-le-mul}
 use lib.Dec.{ltb}
@@ -11,7 +11,6 @@ use lib.Seq.{take-length}
 use lib.Ieee.{Float, nan, binary32, add, mul, lt}
 use borrow.Author.Tests.{ltb-true, ltb-false}
 use Rattle.lists.specs.Written.{written}
-use Rattle.lists.proofs.Choice.{either-way}
 use Rattle.lists.proofs.Written.{written-take}
 use Rattle.ieee.specs.Numbers.{nat}
 use Rattle.ieee.specs.Bounds.{NotNeg}
@@ -29,10 +28,11 @@ use Rattle.sizes.specs.declared.Size.{Size}
 use Rattle.search.specs.declared.Best.{Best}
 use Rattle.search.specs.Search.{Standing, judged, tried}
 use Rattle.search.specs.Steps.{Ready, Stands}
-use Rattle.search.proofs.Finds.{zeros-below}
+use Rattle.search.proofs.Zeros.{zeros-below}
+use Rattle.search.proofs.Lengths.{lines-are, lines-most}
 
 -- ---- a found map
-module _ (b : Block) (z : Size) (t : Bool) (best : Best) (error bits : Float) (cells lines map₀ flags₀ : List ℕ)
+module _ (b : Block) (z : Size) (t : Bool) {best : Best} (error bits : Float) (cells lines : List ℕ) {map₀ flags₀ : List ℕ}
     (s : Standing) (S : Stands s best map₀ flags₀) where
   abbrev all : Float
   all = add binary32 (z .head) bits
@@ -54,7 +54,8 @@ module _ (b : Block) (z : Size) (t : Bool) (best : Best) (error bits : Float) (c
       })
 
   -- it is not: what stood stands
-  pub higher-stands : lt total (best .total) ≡ false → Stands (judged b z t s cells lines (Found error bits)) best map₀ flags₀
+  pub higher-stands : lt total (best .total) ≡ false
+      → Stands (judged b z t s cells lines (Found error bits)) best map₀ flags₀
   higher-stands e = rw (rw (S .is) at e) S
 
 -- ---- what the map search asks
@@ -63,75 +64,68 @@ pub still-ready : {samples costs : List Float} {b : Block} {room lineRoom : ℕ}
     → Ready samples costs b room lineRoom → room' ≡ room → lineRoom' ≡ lineRoom → Ready samples costs b room' lineRoom'
 still-ready room' lineRoom' r e f = rw (e, f) r
 
-pub take-zeros : (k n : ℕ) → k ≤ n → take {A = ℕ} k (replicate n 0) ≡ replicate k 0
-take-zeros zero n h = refl
-take-zeros (suc k) zero h = absurd (omega arith)
-take-zeros (suc k) (suc n) h = ap (λ (xs : List ℕ). 0 ∷ xs) (take-zeros k n (omega arith))
-
-pub lines-are : (w h : ℕ) (t : Bool) → scanOf w h t .lines ≡ linesOf t w h
-lines-are w h true = refl
-lines-are w h false = refl
-
--- as many lines as either orientation has
-pub lines-most : (t : Bool) (w h room : ℕ) {count : ℕ} → count ≡ linesOf t w h → w ≤ room → h ≤ room → count ≤ room
-lines-most t w h room e p q = rw e (either-way (λ n. n ≤ room) t w h p q)
-
-module _ (samples costs : List Float) (b : Block) (room lineRoom : ℕ) (r : Ready samples costs b room lineRoom) where
+module _ {samples costs : List Float} {b : Block} {room lineRoom : ℕ} (ready : Ready samples costs b room lineRoom) where
   cost-plus : (i : ℕ) → NotNeg (getD costs i nan)
   cost-plus i = go (ltb i 301) refl
     where
       go : (t : Bool) → ltb i 301 ≡ t → NotNeg (getD costs i nan)
-      go true e = costs-within costs (r .priced) i (ltb-true i 301 e) .1
+      go true e = costs-within costs (ready .priced) i (ltb-true i 301 e) .1
       go false e =
-          let past : length costs ≤ i = omega (arith, costs-count costs (r .priced), ltb-false i 301 e) in
+          let past : length costs ≤ i = omega (arith, costs-count costs (ready .priced), ltb-false i 301 e) in
           rw (List·getD-eq-default costs nan past) tt
 
-  module _ (t : Bool) (n : ℕ) (two : 2 ≤ n) (eight : n ≤ 8) (s : Scan) (cells lines : List ℕ)
-      (is : s ≡ scanOf (b .width) (b .height) t) (c : cells ≡ replicate (b .width * b .height) 0)
-      (l : lines ≡ replicate (linesOf t (b .width) (b .height)) 0) where
-    pub buildable : (Sound s (length samples) × (length samples ≤ length cells) × (length cells ≤ 4096)
-        × (s .lines ≤ length lines))
+  module _ (t : Bool) where
+    abbrev zeroCells : List ℕ
+    zeroCells = replicate (b .width * b .height) 0
+
+    abbrev zeroLines : List ℕ
+    zeroLines = replicate (linesOf t (b .width) (b .height)) 0
+
+    pub buildable : (n : ℕ) → 2 ≤ n → n ≤ 8 → (s : Scan) (cells lines : List ℕ) → s ≡ scanOf (b .width) (b .height) t
+        → cells ≡ zeroCells → lines ≡ zeroLines
+        → (Sound s (length samples) × (length samples ≤ length cells) × (length cells ≤ 4096) × (s .lines ≤ length lines))
         × ((2 ≤ n) × (n ≤ 8) × (length costs ≡ 301) × Below cells n × Priced costs (b .lambda))
-    buildable =
-        let cells-count : length cells ≡ b .width * b .height = rw c (length-replicate (b .width * b .height) 0) in
+    buildable n two eight s cells lines is cells-zero lines-zero =
+        let cells-count : length cells ≡ b .width * b .height = rw cells-zero (length-replicate (b .width * b .height) 0) in
         let lines-count : length lines ≡ linesOf t (b .width) (b .height) =
-        rw l (length-replicate (linesOf t (b .width) (b .height)) 0) in
-        let small : b .width * b .height ≤ 64 * 64 = mul-le-mul (r .wideMost) (r .highMost) in
+        rw lines-zero (length-replicate (linesOf t (b .width) (b .height)) 0) in
+        let small : b .width * b .height ≤ 64 * 64 = mul-le-mul (ready .wideMost) (ready .highMost) in
         let sound : Sound (scanOf (b .width) (b .height) t) (b .width * b .height) =
-        scan-sound (b .width) (b .height) t (r .wide) (r .wideMost) (r .high) (r .highMost) in (
+        scan-sound (b .width) (b .height) t (ready .wide) (ready .wideMost) (ready .high) (ready .highMost) in (
           (
-            rw (is, r .count) sound,
-            omega (arith, cells-count, r .count),
+            rw (is, ready .count) sound,
+            omega (arith, cells-count, ready .count),
             omega (arith, cells-count),
-            omega (arith, lines-count, ap (λ (q : Scan). q .lines) is, lines-are (b .width) (b .height) t),
+            omega (arith, lines-count, ap (λ (q : Scan). q .lines) is, lines-are (b .width) (b .height) t .0),
           ),
           (
             two,
             eight,
-            costs-count costs (r .priced),
-            rw c (λ i. zeros-below (b .width * b .height) n i (omega arith)),
-            record { plus = cost-plus; mild = lambda-within (b .lambda) (r .weight) },
+            costs-count costs (ready .priced),
+            rw cells-zero (λ i. zeros-below (b .width * b .height) n i (omega arith)),
+            record { plus = cost-plus; mild = lambda-within (b .lambda) (ready .weight) },
           ),
         )
 
-  -- and there is room for what it gives
-  pub room-for : (t : Bool) (cells₀ lines₀ cells lines : List ℕ) → cells₀ ≡ replicate (b .width * b .height) 0
-      → lines₀ ≡ replicate (linesOf t (b .width) (b .height)) 0 → length cells ≡ length cells₀ → length lines ≡ length lines₀
-      → (length cells ≤ room) × (length lines ≤ lineRoom)
-  room-for t cells₀ lines₀ cells lines c l kept keptLines =
-      let few : linesOf t (b .width) (b .height) ≤ lineRoom =
-      either-way (λ n. n ≤ lineRoom) t (b .width) (b .height) (r .columns) (r .rows) in (
-        omega (arith, kept ∙ ap length c ∙ length-replicate (b .width * b .height) 0, r .room),
-        omega (arith, keptLines ∙ ap length l ∙ length-replicate (linesOf t (b .width) (b .height)) 0, few),
-      )
+    -- and there is room for what it gives
+    pub room-for : (cells₀ lines₀ cells lines : List ℕ) → cells₀ ≡ zeroCells → lines₀ ≡ zeroLines
+        → length cells ≡ length cells₀ → length lines ≡ length lines₀ → (length cells ≤ room) × (length lines ≤ lineRoom)
+    room-for cells₀ lines₀ cells lines cells-zero lines-zero kept keptLines =
+        let count : length lines ≡ linesOf t (b .width) (b .height) =
+        keptLines ∙ ap length lines-zero ∙ length-replicate (linesOf t (b .width) (b .height)) 0 in (
+          omega (arith, kept ∙ ap length cells-zero ∙ length-replicate (b .width * b .height) 0, ready .room),
+          lines-most t (b .width) (b .height) lineRoom count (ready .columns) (ready .rows),
+        )
 
 -- the definition's map is the one that was built
 module _ (samples costs : List Float) (b : Block) (z : Size) (t : Bool) (best : Best) (s : Standing) (is : best ≡ s .best)
     (scan : Scan) (colours : List Float) (cells₀ lines₀ cells lines : List ℕ) (found : MapResult)
-    (e : scan ≡ scanOf (b .width) (b .height) t) (v : colours ≡ map (nat binary32) (z .colors))
-    (c : cells₀ ≡ replicate (b .width * b .height) 0) (l : lines₀ ≡ replicate (linesOf t (b .width) (b .height)) 0)
-    (B : Built (mapOf samples costs colours (z .n) (b .lambda) scan (z .head) (best .total) cells₀ lines₀) found cells lines) where
+    (scan-is : scan ≡ scanOf (b .width) (b .height) t) (colours-are : colours ≡ map (nat binary32) (z .colors))
+    (cells-zero : cells₀ ≡ replicate (b .width * b .height) 0)
+    (lines-zero : lines₀ ≡ replicate (linesOf t (b .width) (b .height)) 0)
+    (built : Built (mapOf samples costs colours (z .n) (b .lambda) scan (z .head) (best .total) cells₀ lines₀) found cells lines) where
   pub tried-is : (r : MapResult) → found ≡ r → tried samples costs b z t s ≡ judged b z t s cells lines r
   unfolding tried
   tried-is r told =
-      rw (← told, B .result, B .cells, B .signs, e, v, c, l, is, lines-are (b .width) (b .height) t) refl
+      let count = lines-are (b .width) (b .height) t .0 in
+      rw (← told, built .result, built .cells, built .signs, scan-is, colours-are, cells-zero, lines-zero, is, count) refl

@@ -1,19 +1,19 @@
 -- The walk over the sizes: what stands, and that the sizes that are left lead to the whole. Assumes nothing.
 use mathlib.Core.Path.{_≡_, refl, sym, ap, _∙_}
-use mathlib.Core.Bool.{Bool, true, false, cond}
-use mathlib.Core.List.{List, [], _∷_}
+use mathlib.Core.Bool.{Bool, true, false}
+use mathlib.Core.List.{List, _∷_}
 use Prim.Native.Nat.{ℕ, _≤_, _<_}
-use native.Mathlib.Omega.{arith}
 use lib.ListN.{length, getD, set}
-use Rattle.lists.specs.Counted.{elem}
 use lib.Ieee.{Float, nan, le}
 use Rattle.groups.specs.declared.Histogram.{Histogram}
 use Rattle.groups.proofs.Each.{Each}
 use Rattle.sizes.specs.declared.Block.{Block}
 use Rattle.sizes.specs.declared.Size.{Size}
 use Rattle.sizes.specs.Sizes.{sizeOf}
-use Rattle.sizes.specs.Order.{sizesTo, ordered}
-use Rattle.sizes.proofs.Order.{opened, without-fewer, each-elem, closed, closed-each, first-each, next, next-end, next-is, SizeTo, sizes-each, order-same}
+use Rattle.sizes.specs.Order.{sizesTo, ordered, inOrder}
+use Rattle.sizes.proofs.Order.{first-each}
+use Rattle.sizes.proofs.Levels.{SizeTo, sizes-each, order-same}
+use Rattle.sizes.proofs.Open.{opened, closed-each, next, next-none, next-then, next-fewer}
 use Rattle.search.specs.declared.Best.{Best}
 use Rattle.search.specs.Search.{Standing, none, triedBoth, visited, searched}
 use Rattle.search.specs.Steps.{Stands}
@@ -29,7 +29,7 @@ pub record Walking (samples costs : List Float) (b : Block) (h : Histogram) (lbs
   pub sizes : Each (SizeTo (h .n)) (opened left)
   pub standing : Standing
   pub stands : Stands standing best map flags
-  pub whole : visited samples costs b h (ordered (λ j. getD lbs j nan) 7 (opened left)) standing ≡ searched samples costs b h
+  pub whole : visited samples costs b h (inOrder (λ j. getD lbs j nan) (opened left)) standing ≡ searched samples costs b h
 
 module _ (samples costs : List Float) (b : Block) (h : Histogram) (lbs : List Float) (bounds : Bounds costs b h lbs) where
   abbrev lb : ℕ → Float
@@ -38,21 +38,21 @@ module _ (samples costs : List Float) (b : Block) (h : Histogram) (lbs : List Fl
   pub walking-starts : (left : List Bool) (best : Best) (k : ℕ) (map flags : List ℕ) → opened left ≡ sizesTo (h .n)
       → best ≡ none .best → k ≡ next lb left → Walking samples costs b h lbs left best k map flags
   unfolding searched
-  walking-starts left best k map flags o e n = record {
+  walking-starts left best k map flags all first n = record {
     is = n;
-    sizes = rw o (sizes-each (h .n));
+    sizes = rw all (sizes-each (h .n));
     standing = none;
-    stands = record { is = e; cells = refl; signs = refl };
+    stands = record { is = first; cells = refl; signs = refl };
     whole = ap (λ ks. visited samples costs b h ks none)
-        (ap (λ ks. ordered lb 7 ks) o ∙ order-same (h .n) lb (λ j. sizeOf costs b h j .lb) bounds 7);
+        (ap (λ ks. inOrder lb ks) all ∙ order-same (h .n) lb (λ j. sizeOf costs b h j .lb) bounds);
   }
 
-  module _ (left : List Bool) (best : Best) (k : ℕ) (map flags : List ℕ) (w : Walking samples costs b h lbs left best k map flags) where
+  module _ {left : List Bool} {best : Best} {k : ℕ} {map flags : List ℕ}
+      (w : Walking samples costs b h lbs left best k map flags) where
     -- no size is left
     pub walking-ends : k ≡ 0 → Stands (searched samples costs b h) best map flags
-    unfolding visited
-    walking-ends z =
-        rw (← w .whole, next-end lb left 7 (sym (w .is) ∙ z)) (w .stands)
+    unfolding visited ordered
+    walking-ends z = rw (← w .whole, next-none lb left (sym (w .is) ∙ z)) (w .stands)
 
     module _ (some : k ≡ 0 → ⊥) where
       some-next : next lb left ≡ 0 → ⊥
@@ -62,18 +62,18 @@ module _ (samples costs : List Float) (b : Block) (h : Histogram) (lbs : List Fl
       size-known = rw (w .is) (first-each (SizeTo (h .n)) lb (opened left) (w .sizes) some-next)
 
       -- the size k first, then the others
-      in-turn : visited samples costs b h (k ∷ ordered lb 7 (opened (set left k false))) (w .standing) ≡ searched samples costs b h
+      in-turn : visited samples costs b h (k ∷ inOrder lb (opened (set left k false))) (w .standing)
+          ≡ searched samples costs b h
       in-turn =
           ap (λ ks. visited samples costs b h ks (w .standing))
-          (ap (λ j. j ∷ ordered lb 7 (opened (set left j false))) (w .is) ∙ sym (next-is lb left some-next))
+          (ap (λ j. j ∷ inOrder lb (opened (set left j false))) (w .is) ∙ sym (next-then lb left some-next))
           ∙ w .whole
 
       -- the same test as the code's
-
       same-test : le (w .standing .best .total) (sizeOf costs b h k .lb) ≡ le (best .total) (getD lbs k nan)
       same-test =
-          let s = size-known in
-          rw (bounds k (s .0) (s .1) (s .2), w .stands .is) refl
+          let size = size-known in
+          rw (bounds k (size .0) (size .1) (size .2), w .stands .is) refl
 
       -- an `lb` not below the best ends the walk
       pub walking-stops : le (best .total) (getD lbs k nan) ≡ true → Stands (searched samples costs b h) best map flags
@@ -82,7 +82,8 @@ module _ (samples costs : List Float) (b : Block) (h : Histogram) (lbs : List Fl
 
       -- else the size is tried, and closed
       pub walking-goes-on : le (best .total) (getD lbs k nan) ≡ false → (z : Size) → z ≡ sizeOf costs b h k
-          → (best' : Best) (k' : ℕ) (map' flags' : List ℕ) → Stands (triedBoth samples costs b z (w .standing)) best' map' flags'
+          → (best' : Best) (k' : ℕ) (map' flags' : List ℕ)
+          → Stands (triedBoth samples costs b z (w .standing)) best' map' flags'
           → k' ≡ next lb (set left k false) → Walking samples costs b h lbs (set left k false) best' k' map' flags'
       unfolding visited
       walking-goes-on t z e best' k' map' flags' S n = record {
@@ -94,6 +95,4 @@ module _ (samples costs : List Float) (b : Block) (h : Histogram) (lbs : List Fl
       }
 
       pub fewer-left : length (opened (set left k false)) < length (opened left)
-      fewer-left =
-          rw (closed left k) (without-fewer k (opened left)
-          (rw (w .is) (first-each (λ x. elem x (opened left) ≡ true) lb (opened left) (each-elem (opened left)) some-next)))
+      fewer-left = rw (w .is) (next-fewer lb left some-next)

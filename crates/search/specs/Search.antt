@@ -1,10 +1,10 @@
 -- Document 01, 'Sizes' and 'Numbers returned': the search of a block.
 use mathlib.Core.Path.{_≡_}
-use mathlib.Core.Bool.{Bool, true, false, cond, _&&_, _||_}
+use mathlib.Core.Bool.{Bool, true, false, cond, not, _&&_, _||_}
 use mathlib.Core.List.{List, [], _∷_, map}
 use Prim.Native.Nat.{ℕ, _*_, max}
-use lib.Dec.{eqb, leb}
-use lib.ListN.{length, take, replicate}
+use lib.Dec.{eqb, ltb, leb}
+use lib.ListN.{length, replicate}
 use lib.Ieee.{Float, inf, binary32, add, mul, le, lt, ofBits}
 use Rattle.lists.specs.Written.{front}
 use Rattle.ieee.specs.Numbers.{nat}
@@ -17,8 +17,9 @@ use Rattle.map_search.specs.declared.MapResult.{MapResult}
 use Rattle.map_search.specs.declared.MapResult.the-variants.{Found, Beaten}
 use Rattle.sizes.specs.declared.Block.{Block}
 use Rattle.sizes.specs.declared.Size.{Size}
-use Rattle.sizes.specs.Sizes.{sentFor, sizeOf}
-use Rattle.sizes.specs.Order.{sizesTo, ordered}
+use Rattle.counts.specs.Counts.{orientSent}
+use Rattle.sizes.specs.Sizes.{sizeOf}
+use Rattle.sizes.specs.Order.{sizesTo, inOrder}
 use Rattle.search.specs.declared.Palette.{Palette}
 use Rattle.search.specs.declared.Best.{Best}
 
@@ -41,27 +42,27 @@ judged b z t s map flags Beaten = s
 judged b z t s map flags (Found error bits) =
     let all = add binary32 (z .head) bits in
     let total = add binary32 error (mul binary32 (b .lambda) all) in
-    cond (lt total (s .best .total))
-    (record { best = record { total = total; n = z .n; colors = z .colors; transposed = t; bits = all }; map = map; flags = flags })
-    s
+    let best : Best = record { total = total; n = z .n; colors = z .colors; transposed = t; bits = all } in
+    cond (lt total (s .best .total)) (record { best = best; map = map; flags = flags }) s
 
 -- the levels of a block
 abbrev pub histogramIn : List Float → Histogram
 histogramIn samples = histogramOf (map levelOf samples)
 
 module _ (samples costs : List Float) (b : Block) where
-  -- one orientation of a size; the bound is the best total so far
+  -- one orientation of a size; the bound is the best total so far. The map starts from zeros; any start of these lengths
+  -- gives the same, as every cell and flag is written before it is read
   unfoldable pub tried : Size → Bool → Standing → Standing
   tried z t s =
       let scan = scanOf (b .width) (b .height) t in
       let colours = map (nat binary32) (z .colors) in
-      let e = mapOf samples costs colours (z .n) (b .lambda) scan (z .head) (s .best .total)
-      (replicate (b .width * b .height) 0) (replicate (scan .lines) 0) in
+      let zeros : List ℕ = replicate (b .width * b .height) 0 in
+      let e = mapOf samples costs colours (z .n) (b .lambda) scan (z .head) (s .best .total) zeros (replicate (scan .lines) 0) in
       judged b z t s (e .map) (e .flags) (e .result)
 
   -- plain before transposed, the latter only if an orientation bit is sent
   unfoldable pub triedBoth : Size → Standing → Standing
-  triedBoth z s = cond (sentFor (b .width) (b .height)) (tried z true (tried z false s)) (tried z false s)
+  triedBoth z s = cond (orientSent (b .width) (b .height)) (tried z true (tried z false s)) (tried z false s)
 
   module _ (h : Histogram) where
     -- sizes in turn, up to an lb not below the best
@@ -71,19 +72,19 @@ module _ (samples costs : List Float) (b : Block) where
         let z = sizeOf costs b h k in
         cond (le (s .best .total) (z .lb)) s (visited ks (triedBoth z s))
 
-    -- all sizes, of which there are at most seven
+    -- all sizes, in their order
     unfoldable pub searched : Standing
-    searched = visited (ordered (λ k. sizeOf costs b h k .lb) 7 (sizesTo (h .n))) none
+    searched = visited (inOrder (λ k. sizeOf costs b h k .lb) (sizesTo (h .n))) none
 
   -- of the whole block
   abbrev pub foundIn : Standing
   foundIn = searched (histogramIn samples)
 
--- 7: the map's room, and that of the flags, which one per line of either orientation fit
+-- room for every cell, and for one flag per line of either orientation, that is, for as many as the longer side has
 abbrev pub roomsOk : ℕ → ℕ → ℕ → ℕ → Bool
 roomsOk w h cells lines = leb (w * h) cells && leb (max w h) lines
 
--- 8: both sides below 16
+-- a side of 16 or more
 abbrev pub largeOk : ℕ → ℕ → Bool
 largeOk w h = leb 16 w || leb 16 h
 
@@ -92,21 +93,18 @@ unfoldable pub faultOf : List Float → List Float → Block → ℕ → ℕ →
 faultOf samples costs b cells lines =
     let w = b .width in
     let h = b .height in
-    cond (sidesOk w h)
-    (cond (depthOk (b .bd))
-    (cond (eqb (length samples) (w * h))
-    (cond (lambdaOk (b .lambda))
-    (cond (costsOk costs)
-    (cond (samplesOk (b .bd) samples) (cond (roomsOk w h cells lines) (cond (largeOk w h) 0 8) 7) 6)
-    5)
-    4)
-    3)
-    2)
-    1
+    cond (not (sidesOk w h)) 1
+    (cond (not (depthOk (b .bd))) 2
+    (cond (not (eqb (length samples) (w * h))) 3
+    (cond (not (lambdaOk (b .lambda))) 4
+    (cond (not (costsOk costs)) 5
+    (cond (not (samplesOk (b .bd) samples)) 6
+    (cond (not (roomsOk w h cells lines)) 7
+    (cond (not (largeOk w h)) 8 0)))))))
 
--- 9: one level only; 10: more than 32
+-- 9: fewer than 2 levels; 10: more than 32
 abbrev pub levelsFault : ℕ → ℕ
-levelsFault levels = cond (leb 2 levels) (cond (leb levels 32) 0 10) 9
+levelsFault levels = cond (ltb levels 2) 9 (cond (ltb 32 levels) 10 0)
 
 -- the first of 1 to 10 that applies, or 0
 unfoldable pub searchNumber : List Float → List Float → Block → ℕ → ℕ → ℕ
@@ -120,13 +118,9 @@ refusedBy k = record { number = k; n = 0; colors = replicate 8 0; transposed = f
 
 -- the bit estimate is (head + map bits) × 3
 abbrev pub paletteBy : Best → Palette
-paletteBy b = record {
-  number = 0;
-  n = b .n;
-  colors = b .colors;
-  transposed = b .transposed;
-  bits = mul binary32 (b .bits) (nat binary32 3);
-}
+paletteBy b =
+    let bits = mul binary32 (b .bits) (nat binary32 3) in
+    record { number = 0; n = b .n; colors = b .colors; transposed = b .transposed; bits = bits }
 
 -- the answer for a map of so many cells and so many flags
 abbrev pub answerOf : List Float → List Float → Block → ℕ → ℕ → Palette

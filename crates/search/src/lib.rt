@@ -3,15 +3,16 @@ use map_search::MapResult;
 use sizes::Block;
 use sizes::Size;
 ghost use mathlib.Core.Path.{_≡_};
-ghost use mathlib.Core.List.{List, map};
-ghost use Prim.Native.Nat.{ℕ, _*_, min, _≤_, _<_};
-ghost use lib.ListN.{length, take, getD, replicate};
+ghost use mathlib.Core.List.{map};
+ghost use Prim.Native.Nat.{_*_, _≤_};
+ghost use lib.ListN.{length, take, replicate};
 ghost use lib.Ieee.{binary32};
 ghost use Rattle.lists.specs.Written.{written};
 ghost use Rattle.ieee.specs.Numbers.{nat};
-ghost use Rattle.sizes.specs.Known.{Known};
-ghost use Rattle.search.specs.Search.{Standing, judged, none, tried, triedBoth, searched, histogramIn, foundIn, roomsOk, largeOk, faultOf, levelsFault, refusedBy, paletteBy, Searches};
 ghost use Rattle.context.specs.Map.{linesOf};
+ghost use Rattle.sizes.specs.Known.{Known};
+ghost use Rattle.search.specs.Search.{Standing, judged, tried, triedBoth, searched, histogramIn, foundIn, refusedBy, Searches};
+ghost use Rattle.search.specs.Search.{roomsOk, largeOk, faultOf, levelsFault};
 ghost use Rattle.search.specs.Steps.{Ready, Stands, Written};
 
 // The answer: number 0 with the colours, their count, the orientation and the bit estimate, or a refusal with zeros.
@@ -189,7 +190,8 @@ fn try_in(
     flags: &mut [u8],
 ) -> Best
     requires { ⌜ Ready (now samples) (now costs) b (length (now map)) (length (now flags)) × (2 ≤ z .n) × (z .n ≤ 8) ⌝ }
-    requires { ⌜ (now cells ≡ replicate (b .width * b .height) 0) × (now lines ≡ replicate (linesOf transposed (b .width) (b .height)) 0) ⌝ }
+    requires { ⌜ (now cells ≡ replicate (b .width * b .height) 0)
+        × (now lines ≡ replicate (linesOf transposed (b .width) (b .height)) 0) ⌝ }
     ensures { λ r. ⌜ ((s : Standing) → Stands s best (now (map .entry)) (now (flags .entry))
         → Stands (tried (now (samples .entry)) (now (costs .entry)) b z transposed s) r (now (map .exit)) (now (flags .exit))) ⌝ }
 {
@@ -272,7 +274,7 @@ fn try_size(
         → Stands (triedBoth (now (samples .entry)) (now (costs .entry)) b z s) r (now (map .exit)) (now (flags .exit))) ⌝ }
 {
     let plain = try_scan(samples, costs, b, z, false, best, map, flags);
-    if !sizes::sent_for(b.width, b.height) {
+    if !counts::orient_sent(b.width, b.height) {
         return plain;
     }
     try_scan(samples, costs, b, z, true, plain, map, flags)
@@ -289,7 +291,8 @@ fn best_of(
     map: &mut [u8],
     flags: &mut [u8],
 ) -> Best
-    requires { ⌜ Known (now costs) b h (now table) (now cuts) × Ready (now samples) (now costs) b (length (now map)) (length (now flags)) ⌝ }
+    requires { ⌜ Known (now costs) b h (now table) (now cuts)
+        × Ready (now samples) (now costs) b (length (now map)) (length (now flags)) ⌝ }
     ensures { λ r. ⌜ Stands (searched (now (samples .entry)) (now (costs .entry)) b h) r (now (map .exit)) (now (flags .exit)) ⌝ }
 {
     let lbs = sizes::lbs_of(costs, b, h, table, cuts);

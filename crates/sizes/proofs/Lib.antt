@@ -1,3 +1,6 @@
 pub mod Parts
 pub mod Turns
+pub mod Those
 pub mod Order
+pub mod Levels
+pub mod Open

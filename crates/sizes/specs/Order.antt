@@ -3,6 +3,7 @@ use mathlib.Core.Bool.{Bool, cond, not}
 use mathlib.Core.List.{List, [], _∷_}
 use Prim.Native.Nat.{ℕ, zero, suc}
 use lib.Dec.{eqb, leb}
+use lib.ListN.{length}
 use lib.Ieee.{Float}
 use Rattle.cells.specs.Cell.{cheapest}
 
@@ -19,10 +20,14 @@ abbrev pub sizesTo : ℕ → List ℕ
 sizesTo levels = those (λ k. leb k levels) allSizes
 
 module _ (lb : ℕ → Float) where
-  -- at most m of the sizes, by ascending lb, ties by fewer colours: the first of the cheapest, then the others likewise
+  -- the first m of the sizes, by ascending lb, ties by fewer colours: the first of the cheapest, then the others likewise
   unfoldable pub ordered : ℕ → List ℕ → List ℕ
   ordered zero ks = []
   ordered (suc m) [] = []
   ordered (suc m) (k ∷ ks) =
       let first = cheapest lb k ks in
       first ∷ ordered m (those (λ j. not (eqb j first)) (k ∷ ks))
+
+  -- all of them
+  abbrev pub inOrder : List ℕ → List ℕ
+  inOrder ks = ordered (length ks) ks

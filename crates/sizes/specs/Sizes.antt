@@ -1,12 +1,12 @@
 -- Document 01, 'Sizes': the head and the `lb` of a size. All in f32, sums from the left.
-use mathlib.Core.Bool.{Bool, false, cond, _&&_}
+use mathlib.Core.Bool.{false, cond}
 use mathlib.Core.List.{List, [], _∷_}
 use Prim.Native.Nat.{ℕ, _+_, _-_, min}
-use lib.Dec.{ltb}
 use lib.ListN.{length, getD, take, drop}
 use lib.Ieee.{Float, nan, inf, binary32, add, sub, mul, lt}
 use Rattle.lists.specs.Counted.{bit}
 use Rattle.ieee.specs.Numbers.{nat}
+use Rattle.counts.specs.Counts.{orientSent}
 use Rattle.literals.specs.Literals.{literalBits}
 use Rattle.samples.specs.Narrow.{narrowOf}
 use Rattle.groups.specs.declared.Histogram.{Histogram}
@@ -14,17 +14,13 @@ use Rattle.groups.specs.Groups.{centersOf, errorOf, groupsOf}
 use Rattle.sizes.specs.declared.Block.{Block}
 use Rattle.sizes.specs.declared.Size.{Size}
 
--- an orientation bit is sent if both sides are below 64
-abbrev pub sentFor : ℕ → ℕ → Bool
-sentFor w h = ltb w 64 && ltb h 64
-
 -- mode[1] - mode[0] + size[k - 2] + the literal bits of all k colours + 1 if an orientation bit is sent
 unfoldable pub headOf : List Float → Block → List ℕ → Float
 headOf costs b colors =
     let mode = sub binary32 (getD costs 1 nan) (getD costs 0 nan) in
     let size = getD costs (2 + (length colors - 2)) nan in
     let literal = nat binary32 (literalBits (b .bd) colors) in
-    let orientation = nat binary32 (bit (sentFor (b .width) (b .height))) in
+    let orientation = nat binary32 (bit (orientSent (b .width) (b .height))) in
     add binary32 (add binary32 (add binary32 mode size) literal) orientation
 
 -- the least of x and the list
@@ -38,7 +34,7 @@ leastRow costs = leastOf (inf false) (drop 9 (take 21 costs))
 
 -- the shorter side if an orientation bit is sent, else the height
 abbrev pub fewestLines : ℕ → ℕ → ℕ
-fewestLines w h = cond (sentFor w h) (min w h) h
+fewestLines w h = cond (orientSent w h) (min w h) h
 
 -- error + lambda × (head + lines × least row cost)
 abbrev pub lbOf : List Float → Block → Float → Float → Float

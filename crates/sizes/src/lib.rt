@@ -6,7 +6,7 @@ ghost use lib.ListN.{length, take, getD};
 ghost use lib.Ieee.{nan};
 ghost use Rattle.literals.specs.Literals.{levelsOk};
 ghost use Rattle.cells.specs.Cell.{firstCheapest};
-ghost use Rattle.sizes.specs.Sizes.{sentFor, headOf, leastRow, fewestLines, lbOf, sizeOf};
+ghost use Rattle.sizes.specs.Sizes.{headOf, leastRow, fewestLines, lbOf, sizeOf};
 ghost use Rattle.sizes.specs.Order.{those, allSizes, sizesTo};
 ghost use Rattle.sizes.specs.Known.{Known};
 
@@ -26,20 +26,10 @@ pub struct Size {
     pub lb: f32,
 }
 
-// Whether an orientation bit is sent.
-pub fn sent_for(width: usize, height: usize) -> bool
-    ensures { λ r. ⌜ r ≡ sentFor width height ⌝ }
-{
-    if width < 64 {
-        return height < 64;
-    }
-    false
-}
-
 fn fewest_lines(width: usize, height: usize) -> usize
     ensures { λ r. ⌜ r ≡ fewestLines width height ⌝ }
 {
-    if sent_for(width, height) {
+    if counts::orient_sent(width, height) {
         if width < height {
             return width;
         }
@@ -70,7 +60,7 @@ fn head_of(costs: &[f32], b: Block, colors: [u16; 8], n: usize) -> f32
     ensures { λ r. ⌜ r ≡ headOf (now (costs .entry)) b (take n colors) ⌝ }
 {
     let literal = literals::literal_bits(colors, n, b.bd) as u16;
-    let sent: f32 = if sent_for(b.width, b.height) {
+    let sent: f32 = if counts::orient_sent(b.width, b.height) {
         1.0
     } else {
         0.0

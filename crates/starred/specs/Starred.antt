@@ -1,5 +1,5 @@
 -- Document 01, 'Worked blocks' and 'Listing program': those with a star, as one claim on the definitions. Assumes nothing.
-use Prim.Native.Nat.{ℕ, zero, suc, _+_, _/_, _%_}
+use Prim.Native.Nat.{ℕ, _+_, _/_, _%_}
 use mathlib.Core.Path.{_≡_, refl, ap, _∙_}
 use mathlib.Core.Bool.{false, cond}
 use lib.Dec.{eqb}
@@ -30,8 +30,6 @@ use Rattle.sizes.specs.declared.Block.{Block}
 use Rattle.sizes.specs.Sizes.{headOf, leastOf}
 use Rattle.sizes.specs.Order.{those, ordered}
 use Rattle.search.specs.Search.{tried, triedBoth, visited, searched, faultOf, levelsFault, searchNumber, refusedBy, paletteBy, answerOf, histogramIn, foundIn}
-use Prim.Native.String.{String, len, charAt}
-use Prim.Native.Char.{code}
 use Rattle.accept.specs.Accepted.{sidesOk, depthOk, colorsOk, orientOk, cacheOk, countsOk, lineOk, mapOk, refusal}
 use Rattle.fields.specs.Fields.{isDigit, column, columns, fieldAt, isLine, lineNumbers, areRows, rowNumbers}
 use Rattle.printing.specs.Printing.{digits, field, line, callLine, callLines, listed, refused}

@@ -1,10 +1,9 @@
 -- Small arrays filled place by place, and a context's number. Assumes nothing.
-use mathlib.Core.Path.{_≡_, refl, ap, _∙_}
-use mathlib.Core.Bool.{cond}
-use mathlib.Core.List.{List, [], _∷_, _++_, append-nil}
-use Prim.Native.Nat.{ℕ, suc, _≤_, _<_}
+use mathlib.Core.Path.{_≡_, ap, _∙_}
+use mathlib.Core.List.{List, _++_, append-nil}
+use Prim.Native.Nat.{ℕ, _<_}
 use native.Mathlib.Omega.{arith}
-use lib.ListN.{length, drop, set, drop-of-length-le}
+use lib.ListN.{length, drop-of-length-le}
 use Rattle.lists.specs.Written.{written, front}
 use Rattle.lists.proofs.Choice.{either-way}
 use Rattle.lists.proofs.Written.{written-front}

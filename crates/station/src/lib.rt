@@ -1,7 +1,7 @@
 // The front door as C functions, for Rust and C to link. A slice is a pointer and a length. What a function returns beside
 // its number goes to a small array, which holds zeros after a refusal.
 ghost use mathlib.Core.Path.{_≡_};
-ghost use mathlib.Core.List.{_∷_, []};
+ghost use mathlib.Core.List.{_∷_};
 ghost use Rattle.counts.specs.Counts.{blockAllowed};
 ghost use Rattle.context.specs.Context.{contextOf};
 ghost use Rattle.accept.specs.Palette.{paletteOf};
@@ -9,7 +9,6 @@ ghost use Rattle.listing.specs.Listing.{Predicts};
 ghost use Rattle.station.specs.Listed.{ListsTo};
 ghost use Rattle.station.specs.Searched.{fieldsOf, SearchesTo};
 ghost use Prim.Native.Nat.{_≤_};
-ghost use lib.ListN.{length};
 
 #[no_mangle]
 pub extern "C" fn palette_block_allowed(bw4: usize, bh4: usize) -> bool

@@ -40,25 +40,34 @@ depth c = sym (c .before .within .ensures) ∙ not-false _ (c .if2 .left)
 colors : (c : tie.Else3) → let s = start (c .before .before .before .before) in colorsOk (s .args .bd) (given s .colors) ≡ true
 colors c = sym (c .before .colors-ok .ensures) ∙ not-false _ (c .if3 .left)
 
-orient : (c : tie.Else4) → let a = start (c .before .before .before .before .before .before) .args in orientOk (a .width) (a .height) (a .transposed) ≡ true
+orient : (c : tie.Else4) → let a = start (c .before .before .before .before .before .before) .args in
+    orientOk (a .width) (a .height) (a .transposed) ≡ true
 orient c = sym (c .before .orient-ok .ensures) ∙ not-false _ (c .if4 .left)
 
 -- 14 and 15 are left
-rest : (c : tie.Else5) → let s = start (c .before .before .before .before .before .before .before) in let w = s .args .width in let h = s .args .height in
+rest : (c : tie.Else5) → let s = start (c .before .before .before .before .before .before .before) in
+    let w = s .args .width in
+    let h = s .args .height in
     refusal w h (s .args .bd) (s .args .cached) (given s) ≡ cond (countsOk w h (given s)) (cond (mapOk w h (given s)) 0 15) 14
 unfolding refusal cacheOk
-rest c = rw (sides (c .before .before .before .before .before .before .before), depth (c .before .before .before .before .before), colors (c .before .before .before), orient (c .before), le-leb _ _ (c .if5 .left)) refl
+rest c =
+    let third = c .before .before .before in
+    let second = third .before .before in
+    rw (sides (second .before .before), depth second, colors third, orient (c .before), le-leb _ _ (c .if5 .left)) refl
 
-counts : (c : tie.Else7) → let s = start (c .before .before .before .before .before .before .before .before .before .before) in countsOk (s .args .width) (s .args .height) (given s) ≡ true
+counts : (c : tie.Else7) → let s = start (c .before .before .before .before .before .before .before .before .before .before) in
+    countsOk (s .args .width) (s .args .height) (given s) ≡ true
 unfolding countsOk
 counts c = rw (eq-eqb _ _ (c .before .before .if6 .left), eq-eqb _ _ (c .if7 .left ∙ c .before .lines-of .ensures)) refl
 
 -- what the test of the indices says
 indices : (c : tie.After-indices-ok) (b : Bool) → c .indices-ok .result ≡ b
-    → let s = start (c .before .before .before .before .before .before .before .before .before .before .before) in allIn (λ i. ltb i (length (given s .colors))) (now (s .args .map)) ≡ b
+    → let s = start (c .before .before .before .before .before .before .before .before .before .before .before) in
+    allIn (λ i. ltb i (length (given s .colors))) (now (s .args .map)) ≡ b
 indices c b e =
-    let s = start (c .before .before .before .before .before .before .before .before .before .before .before) in
-    rw (length-given (s .args .colors) (eight s) (s .args .bd) (s .args .n) (colors (c .before .before .before .before .before .before .before))) (sym (c .indices-ok .ensures) ∙ e)
+    let third = c .before .before .before .before .before .before .before in
+    let s = start (third .before .before .before .before) in
+    rw (length-given (s .args .colors) (eight s) (s .args .bd) (s .args .n) (colors third)) (sym (c .indices-ok .ensures) ∙ e)
 
 sides-ok-requires : tie.Need-sides-ok-requires
 sides-ok-requires c κs = search needs
@@ -80,18 +89,26 @@ colors-ok-requires c κs = within-at 8 12 (start (c .before .before) .args .bd) 
 
 returns-3 : tie.Need-returns-3
 unfolding refusal
-returns-3 c = rw (sides (c .before .before .before .before), depth (c .before .before), sym (c .before .colors-ok .ensures) ∙ not-true _ (c .if3 .taken)) refl
+returns-3 c =
+    let second = c .before .before in
+    rw (sides (second .before .before), depth second, sym (c .before .colors-ok .ensures) ∙ not-true _ (c .if3 .taken)) refl
 
 orient-ok-requires : tie.Need-orient-ok-requires
 orient-ok-requires c κs = search needs
 
 returns-4 : tie.Need-returns-4
 unfolding refusal
-returns-4 c = rw (sides (c .before .before .before .before .before .before), depth (c .before .before .before .before), colors (c .before .before), sym (c .before .orient-ok .ensures) ∙ not-true _ (c .if4 .taken)) refl
+returns-4 c =
+    let third = c .before .before in
+    let second = third .before .before in
+    rw (sides (second .before .before), depth second, colors third, sym (c .before .orient-ok .ensures) ∙ not-true _ (c .if4 .taken)) refl
 
 returns-5 : tie.Need-returns-5
 unfolding refusal cacheOk
-returns-5 c = rw (sides (c .before .before .before .before .before .before .before), depth (c .before .before .before .before .before), colors (c .before .before .before), orient (c .before), lt-leb _ _ (c .if5 .taken)) refl
+returns-5 c =
+    let third = c .before .before .before in
+    let second = third .before .before in
+    rw (sides (second .before .before), depth second, colors third, orient (c .before), lt-leb _ _ (c .if5 .taken)) refl
 
 mul-if6 : tie.Need-mul-if6
 mul-if6 c =
@@ -122,7 +139,9 @@ indices-ok-requires c κs = search needs
 
 returns-8 : tie.Need-returns-8
 unfolding mapOk
-returns-8 c = sym (rest (c .before .before .before .before .before) ∙ rw (counts (c .before .before), indices (c .before) false (not-true _ (c .if8 .taken))) refl)
+returns-8 c =
+    sym (rest (c .before .before .before .before .before)
+    ∙ rw (counts (c .before .before), indices (c .before) false (not-true _ (c .if8 .taken))) refl)
 
 lines-ok-requires : tie.Need-lines-ok-requires
 lines-ok-requires c κs = search needs
@@ -130,14 +149,18 @@ lines-ok-requires c κs = search needs
 returns-9 : tie.Need-returns-9
 unfolding mapOk
 returns-9 c =
-    sym (rest (c .before .before .before .before .before .before .before)
-    ∙ rw (counts (c .before .before .before .before), indices (c .before .before .before) true (not-false _ (c .before .before .if8 .left)), sym (c .before .lines-ok .ensures) ∙ not-true _ (c .if9 .taken)) refl)
+    let eighth = c .before .before in
+    let below = indices (eighth .before) true (not-false _ (eighth .if8 .left)) in
+    sym (rest (eighth .before .before .before .before .before)
+    ∙ rw (counts (eighth .before .before), below, sym (c .before .lines-ok .ensures) ∙ not-true _ (c .if9 .taken)) refl)
 
 returns-10 : tie.Need-returns-10
 unfolding mapOk
 returns-10 c =
-    sym (rest (c .before .before .before .before .before .before .before)
-    ∙ rw (counts (c .before .before .before .before), indices (c .before .before .before) true (not-false _ (c .before .before .if8 .left)), sym (c .before .lines-ok .ensures) ∙ not-false _ (c .if9 .left)) refl)
+    let eighth = c .before .before in
+    let below = indices (eighth .before) true (not-false _ (eighth .if8 .left)) in
+    sym (rest (eighth .before .before .before .before .before)
+    ∙ rw (counts (eighth .before .before), below, sym (c .before .lines-ok .ensures) ∙ not-false _ (c .if9 .left)) refl)
 
 pub fault-spec : {M : Type 1} → statement M
 fault-spec =

@@ -1,4 +1,5 @@
-use Rattle.cells.proofs.Laws.{chosen-whole, chosen-in, order-under, order-fits, usable-8}
+use Rattle.cells.proofs.Order.{order-under, order-fits, usable-8}
+use Rattle.cells.proofs.Ranked.{chosen-whole, chosen-in}
 use Rattle.cells.specs.Cell.{chosen}
 use Rattle.near.specs.Near.{aroundOf}
 use Rattle.context.specs.Order.{orderOf}
@@ -10,15 +11,23 @@ use borrow.Author.Needs.{needs}
 use Rattle.cells.proofs.choose_cell.Statement.{statement}
 use Rattle.cells.proofs.choose_cell.Tie as tie
 
-whole : (c : tie.After-pick-rest) → c .pick-rest .result ≡ chosen (c .before .before .before .before .squares .result) (now (c .before .before .before .before .before .args .rates)) (c .before .before .before .before .before .args .lambda) (orderOf (aroundOf (c .before .before .before .before .before .args .m)) (c .before .before .before .before .before .args .n))
+whole : (c : tie.After-pick-rest) → let s = c .before .before .before .before .before in
+    c .pick-rest .result
+    ≡ chosen (c .before .before .before .before .squares .result) (now (s .args .rates)) (s .args .lambda) (orderOf (aroundOf (s .args .m)) (s .args .n))
 whole c =
     let s = c .before .before .before .before .before in
-    c .pick-rest .ensures ∙ rw (c .before .before .pick-near .ensures) (sym (chosen-whole (c .before .before .before .before .squares .result) (now (s .args .rates)) (s .args .lambda) (s .args .m) (s .args .n) (s .pre .0)))
+    let whole-order = chosen-whole (c .before .before .before .before .squares .result) (now (s .args .rates)) (s .args .lambda) in
+    c .pick-rest .ensures ∙ rw (c .before .before .pick-near .ensures) (sym (whole-order (s .args .m) (s .args .n) (s .pre .0)))
 
-inside : (c : tie.After-pick-rest) → (c .pick-rest .result .index < c .before .before .before .before .before .args .n) × (c .pick-rest .result .rank < 8)
+inside : (c : tie.After-pick-rest) → let s = c .before .before .before .before .before in
+    (c .pick-rest .result .index < s .args .n) × (c .pick-rest .result .rank < 8)
 inside c =
     let s = c .before .before .before .before .before in
-    rw (whole c) (chosen-in (c .before .before .before .before .squares .result) (now (s .args .rates)) (s .args .lambda) (s .args .n) (orderOf (aroundOf (s .args .m)) (s .args .n)) (s .pre .1) (order-under (s .args .m) (s .args .n) (s .pre .0) (s .pre .2)) (order-fits (s .args .m) (s .args .n) (s .pre .0) (s .pre .2)))
+    let m = s .args .m in
+    let n = s .args .n in
+    rw (whole c)
+    (chosen-in (c .before .before .before .before .squares .result) (now (s .args .rates)) (s .args .lambda) n (orderOf (aroundOf m) n) (s .pre .1)
+    (order-under m n (s .pre .0)) (order-fits m n (s .pre .0) (s .pre .2)))
 
 squares-requires : tie.Need-squares-requires
 squares-requires c κs = search needs
@@ -27,7 +36,9 @@ pick-near-requires : tie.Need-pick-near-requires
 pick-near-requires c κs = search needs
 
 pick-rest-requires : tie.Need-pick-rest-requires
-pick-rest-requires c κs = (usable-8 (c .before .before .before .before .args .m) (c .before .before .before .before .args .n) (c .before .before .before .before .pre .0) (c .before .before .before .before .pre .2), c .before .before .before .before .pre .2)
+pick-rest-requires c κs =
+    let s = c .before .before .before .before in
+    (usable-8 (s .args .m) (s .args .n) (s .pre .0) (s .pre .2), s .pre .2)
 
 mul-t16 : tie.Need-mul-t16
 mul-t16 c = omega (arith, inside c, c .before .before .before .before .before .pre .2)

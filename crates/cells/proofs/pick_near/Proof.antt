@@ -1,10 +1,14 @@
 use native.Mathlib.Omega.{arith}
 use denote.Ref.{now}
-use Rattle.cells.proofs.Laws.{near-1, near-2, near-3}
-use mathlib.Core.Path.{_≡_, refl, sym, _∙_}
+use Rattle.cells.proofs.Ranked.{near-1, near-2, near-3}
+use mathlib.Core.Path.{_≡_, sym, _∙_}
 use borrow.Author.Needs.{needs}
 use Rattle.cells.proofs.pick_near.Statement.{statement}
 use Rattle.cells.proofs.pick_near.Tie as tie
+
+-- after the second neighbour was compared with the first
+abbrev start : tie.After-better → tie.Start
+start c = c .before .before .before .before .before .before .before .before .before
 
 cast-a : tie.Need-cast-a
 cast-a c = search needs
@@ -19,7 +23,9 @@ element-copy-out-better-2 : tie.Need-element-copy-out-better-2
 element-copy-out-better-2 c = search needs
 
 returns : tie.Need-returns
-returns c = sym (near-1 (now (c .before .before .before .before .before .args .dists)) (now (c .before .before .before .before .before .args .rates)) (c .before .before .before .before .before .args .lambda) (c .before .before .before .before .before .args .m .count) (c .before .before .before .before .before .args .m .a) (c .before .before .before .before .before .args .m .b) (c .before .before .before .before .before .args .m .c) (c .if1 .taken))
+returns c =
+    let a = c .before .before .before .before .before .args in
+    sym (near-1 (now (a .dists)) (now (a .rates)) (a .lambda) (a .m) (c .if1 .taken))
 
 cast-b : tie.Need-cast-b
 cast-b c = search needs
@@ -37,7 +43,9 @@ better-requires : tie.Need-better-requires
 better-requires c κs = search needs
 
 returns-2 : tie.Need-returns-2
-returns-2 c = c .before .before .better .ensures ∙ sym (near-2 (now (c .before .before .before .before .before .before .before .before .before .before .before .args .dists)) (now (c .before .before .before .before .before .before .before .before .before .before .before .args .rates)) (c .before .before .before .before .before .before .before .before .before .before .before .args .lambda) (c .before .before .before .before .before .before .before .before .before .before .before .args .m .count) (c .before .before .before .before .before .before .before .before .before .before .before .args .m .a) (c .before .before .before .before .before .before .before .before .before .before .before .args .m .b) (c .before .before .before .before .before .before .before .before .before .before .before .args .m .c) (c .if2 .taken))
+returns-2 c =
+    c .before .before .better .ensures ∙ sym (near-2 (now (start (c .before .before) .args .dists)) (now (start (c .before .before) .args .rates))
+    (start (c .before .before) .args .lambda) (start (c .before .before) .args .m) (c .if2 .taken))
 
 cast-c : tie.Need-cast-c
 cast-c c = search needs
@@ -55,7 +63,13 @@ better-requires-2 : tie.Need-better-requires-2
 better-requires-2 c κs = search needs
 
 returns-3 : tie.Need-returns-3
-returns-3 c = let e : c .before .before .before .before .before .before .before .before .before .before .before .before .before .before .before .args .m .count ≡ 3 = omega (arith, c .before .before .before .before .before .before .before .before .before .before .before .before .before .before .before .pre .some, c .before .before .before .before .before .before .before .before .before .before .before .before .before .before .before .pre .few, c .before .before .before .before .before .before .before .before .before .before .if1 .left, c .before .before .before .before .if2 .left) in c .better2 .ensures ∙ (rw (c .before .before .before .before .before .before .better .ensures, ← near-2 (now (c .before .before .before .before .before .before .before .before .before .before .before .before .before .before .before .args .dists)) (now (c .before .before .before .before .before .before .before .before .before .before .before .before .before .before .before .args .rates)) (c .before .before .before .before .before .before .before .before .before .before .before .before .before .before .before .args .lambda) 2 (c .before .before .before .before .before .before .before .before .before .before .before .before .before .before .before .args .m .a) (c .before .before .before .before .before .before .before .before .before .before .before .before .before .before .before .args .m .b) 0 refl) (sym (near-3 (now (c .before .before .before .before .before .before .before .before .before .before .before .before .before .before .before .args .dists)) (now (c .before .before .before .before .before .before .before .before .before .before .before .before .before .before .before .args .rates)) (c .before .before .before .before .before .before .before .before .before .before .before .before .before .before .before .args .lambda) (c .before .before .before .before .before .before .before .before .before .before .before .before .before .before .before .args .m .count) (c .before .before .before .before .before .before .before .before .before .before .before .before .before .before .before .args .m .a) (c .before .before .before .before .before .before .before .before .before .before .before .before .before .before .before .args .m .b) (c .before .before .before .before .before .before .before .before .before .before .before .before .before .before .before .args .m .c) e)))
+returns-3 c =
+    let two = c .before .before .before .before .before .before in
+    let first = start two in
+    let a = first .args in
+    let three : a .m .count ≡ 3 =
+    omega (arith, first .pre .some, first .pre .few, two .before .before .before .before .if1 .left, c .before .before .before .before .if2 .left) in
+    c .better2 .ensures ∙ rw (two .better .ensures) (sym (near-3 (now (a .dists)) (now (a .rates)) (a .lambda) (a .m) three))
 
 pub pick-near-spec : {M : Type 1} → statement M
 pick-near-spec =

@@ -1,6 +1,5 @@
 use native.Mathlib.Nat.{add-zero}
-use Rattle.cells.proofs.Laws.{turn}
-use Rattle.cells.specs.declared.Pick.{Pick}
+use Rattle.cells.proofs.Ranked.{bestTo, turn}
 use Rattle.cells.specs.Cell.{cheapest, ranked}
 use Rattle.near.specs.Near.{firstsOf}
 use Rattle.context.specs.Order.{others}
@@ -13,7 +12,9 @@ use Rattle.cells.proofs.pick_rest.Statement.{statement}
 use Rattle.cells.proofs.pick_rest.Tie as tie
 
 abbrev Inv-loop : tie.InvT-loop
-Inv-loop dists rates m n lambda s₀ v₀ s v = (s .best ≡ cheapest (λ (p : Pick). p .total) (s₀ .best) (ranked dists rates lambda (m .count) (others (firstsOf m) v))) × (s .rank ≡ m .count + length (others (firstsOf m) v)) × (v ≤ n)
+Inv-loop dists rates m n lambda s₀ v₀ s v =
+    (s .best ≡ bestTo dists rates lambda (s₀ .best) (m .count) (firstsOf m) v)
+    × (s .rank ≡ m .count + length (others (firstsOf m) v)) × (v ≤ n)
 
 abbrev μ-loop : tie.MeasureT-loop
 μ-loop dists rates m n lambda s₀ v₀ s v = n - v
@@ -32,10 +33,16 @@ loop-less : tie.Need-loop-less Inv-loop μ-loop
 loop-less c = omega arith
 
 loop-again : tie.Need-loop-again Inv-loop μ-loop
-loop-again c = let l = c .before .before .loop in let a = c .before .before .before .args in let t = turn (now (a .dists)) (now (a .rates)) (a .lambda) (a .from) (a .m .count) (firstsOf (a .m)) (l .v) (l .s) (l .inv .0) (l .inv .1) in (rw (c .consider .ensures) (t .0), rw (c .consider .ensures) (t .1), omega arith)
+loop-again c =
+    let l = c .before .before .loop in
+    let a = c .before .before .before .args in
+    let turned = turn (now (a .dists)) (now (a .rates)) (a .lambda) (a .from) (a .m .count) (firstsOf (a .m)) (l .v) (l .s) (l .inv .0) (l .inv .1) in
+    (rw (c .consider .ensures) (turned .0), rw (c .consider .ensures) (turned .1), omega arith)
 
 returns : tie.Need-returns Inv-loop μ-loop
-returns c = let e : c .before .before .loop .v ≡ c .before .before .before .args .n = omega arith in rw (← e) (c .before .before .loop .inv .0)
+returns c =
+    let all : c .before .before .loop .v ≡ c .before .before .before .args .n = omega arith in
+    rw (← all) (c .before .before .loop .inv .0)
 
 pub pick-rest-spec : {M : Type 1} → statement M
 pick-rest-spec =

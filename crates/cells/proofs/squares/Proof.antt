@@ -54,7 +54,18 @@ square-requires-8 c κs = search needs
 
 returns : tie.Need-returns
 unfolding squaresOf
-returns c = rw (c .before .before .before .before .before .before .before .before .before .before .before .before .before .before .square .ensures, c .before .before .before .before .before .before .before .before .before .before .before .before .square2 .ensures, c .before .before .before .before .before .before .before .before .before .before .square3 .ensures, c .before .before .before .before .before .before .before .before .square4 .ensures, c .before .before .before .before .before .before .square5 .ensures, c .before .before .before .before .square6 .ensures, c .before .before .square7 .ensures, c .square8 .ensures) refl
+returns c =
+    rw (
+      c .before .before .before .before .before .before .before .before .before .before .before .before .before .before .square .ensures,
+      c .before .before .before .before .before .before .before .before .before .before .before .before .square2 .ensures,
+      c .before .before .before .before .before .before .before .before .before .before .square3 .ensures,
+      c .before .before .before .before .before .before .before .before .square4 .ensures,
+      c .before .before .before .before .before .before .square5 .ensures,
+      c .before .before .before .before .square6 .ensures,
+      c .before .before .square7 .ensures,
+      c .square8 .ensures,
+    )
+    refl
 
 pub squares-spec : {M : Type 1} → statement M
 squares-spec =

@@ -28,7 +28,18 @@ uniform-requires-8 : tie.Need-uniform-requires-8
 uniform-requires-8 c κs = search needs
 
 returns : tie.Need-returns
-returns c = rw (c .before .before .before .before .before .before .before .uniform .ensures, c .before .before .before .before .before .before .uniform2 .ensures, c .before .before .before .before .before .uniform3 .ensures, c .before .before .before .before .uniform4 .ensures, c .before .before .before .uniform5 .ensures, c .before .before .uniform6 .ensures, c .before .uniform7 .ensures, c .uniform8 .ensures) refl
+returns c =
+    rw (
+      c .before .before .before .before .before .before .before .uniform .ensures,
+      c .before .before .before .before .before .before .uniform2 .ensures,
+      c .before .before .before .before .before .uniform3 .ensures,
+      c .before .before .before .before .uniform4 .ensures,
+      c .before .before .before .uniform5 .ensures,
+      c .before .before .uniform6 .ensures,
+      c .before .uniform7 .ensures,
+      c .uniform8 .ensures,
+    )
+    refl
 
 pub uniform-rates-spec : {M : Type 1} → statement M
 uniform-rates-spec =

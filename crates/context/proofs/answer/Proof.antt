@@ -6,17 +6,20 @@ use Prim.Native.Nat.{ℕ, suc, _+_, _-_, _≤_, _<_}
 use native.Mathlib.Numerals.{add-one}
 use native.Mathlib.Omega.{arith}
 use lib.Seq.{set-at}
-use lib.ListN.{length, set, replicate, length-append}
+use lib.ListN.{length, getD, set, replicate, length-append, replicate-append-replicate}
 use borrow.Author.Tests.{not-true, not-false}
 use borrow.Author.Needs.{needs}
 use Rattle.lists.specs.Counted.{elem}
 use Rattle.context.specs.Context.{answered}
 use Rattle.context.specs.Order.{Around, byThree, orderOf}
-use Rattle.context.specs.Parts.{padded}
 use Rattle.context.proofs.Order.{FirstsOk, added, order-none, order-next, order-length, order-room}
-use Rattle.context.proofs.Around.{three-ok, three-elem}
+use Rattle.context.proofs.Around.{three-ok, three-elem, three-count, in-three}
 use Rattle.context.proofs.answer.Statement.{statement}
 use Rattle.context.proofs.answer.Tie as tie
+
+-- a list in eight places, with zeros after it
+abbrev padded : List ℕ → List ℕ
+padded xs = xs ++ replicate (8 - length xs) 0
 
 abbrev Inv-loop : tie.InvT-loop
 Inv-loop left top diag n near order₀ used₀ v₀ order used v =
@@ -33,6 +36,12 @@ pad-push xs v h =
     let e : 8 - length xs ≡ suc (8 - length (xs ++ (v ∷ []))) = omega (arith, length-append xs (v ∷ [])) in
     rw e (set-at xs 0 _ v (length xs) refl ∙ sym (append-assoc xs (v ∷ []) _))
 
+-- those that come first in three places, then five zeros
+first-places : (xs : List ℕ) → length xs ≤ 3 → getD xs 0 0 ∷ getD xs 1 0 ∷ getD xs 2 0 ∷ replicate 5 0 ≡ padded xs
+first-places xs h =
+    let e : 8 - length xs ≡ 3 - length xs + 5 = omega arith in
+    rw (in-three xs (replicate 5 0) h, e, replicate-append-replicate {A = ℕ} (3 - length xs) 5 0) refl
+
 abbrev A : tie.Start Inv-loop μ-loop → Around
 A s = byThree (s .args .left .0) (s .args .top .0) (s .args .diag .0)
 
@@ -40,7 +49,7 @@ ok : (s : tie.Start Inv-loop μ-loop) → FirstsOk (A s) (s .args .n)
 ok s = three-ok (s .args .n) _ _ _ (s .pre .0) (s .pre .1) (s .pre .2)
 
 abbrev start : tie.Then1 Inv-loop μ-loop → tie.Start Inv-loop μ-loop
-start c = c .before .before .before .before .before .before
+start c = c .before .before .before .before .before
 
 -- an index that is no neighbour's goes to the end, where there is room; a neighbour's changes nothing
 new : (c : tie.Then1 Inv-loop μ-loop) → elem (c .before .before .before .loop .v) (A (start c) .firsts) ≡ false
@@ -60,8 +69,8 @@ nearest-requires c κs = search needs
 loop-holds : tie.Need-loop-holds Inv-loop μ-loop
 loop-holds c = (
   search needs,
-  rw (order-none (A (c .before .before)), c .before .nearest .ensures) refl,
-  rw (order-none (A (c .before .before)), c .before .nearest .ensures) refl,
+  rw (order-none (A (c .before)), c .nearest .ensures) refl,
+  rw (order-none (A (c .before)), c .nearest .ensures) (first-places (A (c .before) .firsts) (three-count _ _ _ .1)),
 )
 
 is-other-requires : tie.Need-is-other-requires Inv-loop μ-loop
@@ -81,7 +90,7 @@ loop-less c = search needs
 
 loop-again : tie.Need-loop-again Inv-loop μ-loop
 loop-again c =
-    let s = c .before .before .before .before .before .before in
+    let s = c .before .before .before .before .before in
     let l = c .before .before .before .loop in
     let o = orderOf (A s) (l .v) in
     ⊎-elim
@@ -102,13 +111,13 @@ loop-again c =
 returns : tie.Need-returns Inv-loop μ-loop
 unfolding answered
 returns c =
-    let s = c .before .before .before .before in
+    let s = c .before .before .before in
     let l = c .before .loop in
     let e : l .v ≡ s .args .n = omega (arith, l .inv .0, c .loop-test .left) in
     let o : l .order ≡ orderOf (A s) (s .args .n) ++ replicate (8 - s .args .n) 0 =
     rw e at (l .inv .2)
     ∙ ap (λ (k : ℕ). orderOf (A s) (s .args .n) ++ replicate (8 - k) 0) (order-length (A s) (s .args .n) (ok s)) in
-    rw (o, c .before .before .before .nearest .ensures) refl
+    rw (o, c .before .before .nearest .ensures) refl
 
 pub answer-spec : {M : Type 1} → statement M
 answer-spec =

@@ -1,5 +1,5 @@
 use Prim.Native.Nat.{ℕ, _+_, _-_, _≤_, _<_}
-use mathlib.Core.Path.{_≡_, refl, sym, ap, _∙_}
+use mathlib.Core.Path.{_≡_, refl, _∙_}
 use mathlib.Core.List.{List, _∷_, _++_}
 use native.Mathlib.Omega.{arith}
 use lib.ListN.{length, take, length-append}
@@ -8,7 +8,7 @@ use borrow.Author.Needs.{needs}
 use Rattle.lists.specs.Written.{written}
 use Rattle.lists.proofs.Written.{written-append}
 use Rattle.literals.specs.Words.{word}
-use Rattle.literals.specs.Literals.{levelsOk, literalWords}
+use Rattle.literals.specs.Literals.{literalWords}
 use Rattle.literals.proofs.Levels.{levels-ascend}
 use Rattle.literals.proofs.Colors.{eight}
 use Rattle.emit.specs.Colors.{cacheWords, untaken, colorWords}

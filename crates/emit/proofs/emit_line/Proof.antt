@@ -1,9 +1,8 @@
-use Rattle.emit.specs.Map.{sentCells}
 use Rattle.lists.specs.Written.{written}
 use lib.ListN.{length}
 use native.Mathlib.Omega.{arith}
-use mathlib.Core.Path.{_≡_, refl, _∙_}
-use Prim.Native.Nat.{ℕ, _+_, _≤_}
+use mathlib.Core.Path.{refl, _∙_}
+use Prim.Native.Nat.{_+_, _≤_}
 use borrow.Author.Needs.{needs}
 use Rattle.emit.proofs.emit_line.Statement.{statement}
 use Rattle.emit.proofs.emit_line.Tie as tie
@@ -33,10 +32,16 @@ same-length c = search needs
 
 returns : tie.Need-returns
 unfolding written
-returns c = let k = c .before .before .before .before .sent-cells in
-    let p = c .before .before .before .before .before .before .before .put in
-    let e = c .before .before .emit-cells in
-    (omega (arith, e .ensures .0, k .ensures, p .ensures .0), e .ensures .1 ∙ rw (p .ensures .1, p .ensures .0, k .ensures, c .before .before .before .before .before .before .before .before .call .ensures, c .before .before .before .before .before .before .before .before .before .wide .ensures .0) refl)
+returns c =
+    let k = c .before .before .before .before .sent-cells .ensures in
+    let flag = c .before .before .before .before .before .before .before in
+    let p = flag .put in
+    let call = flag .before .call .ensures in
+    let wide = flag .before .before .wide .ensures .0 in
+    let e = c .before .before .emit-cells in (
+      omega (arith, e .ensures .0, k, p .ensures .0),
+      e .ensures .1 ∙ rw (p .ensures .1, p .ensures .0, k, call, wide) refl,
+    )
 
 pub emit-line-spec : {M : Type 1} → statement M
 emit-line-spec =

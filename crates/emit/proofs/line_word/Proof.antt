@@ -1,4 +1,3 @@
-use mathlib.Core.Path.{_≡_, refl, sym, _∙_}
 use Rattle.emit.proofs.line_word.Statement.{statement}
 use Rattle.emit.proofs.line_word.Tie as tie
 

@@ -4,7 +4,7 @@ use Rattle.lists.specs.Written.{written}
 use borrow.Author.Needs.{needs}
 use lib.ListN.{length, take, drop}
 use mathlib.Core.Path.{_≡_, refl}
-use Prim.Native.Nat.{ℕ, _≤_, _-_}
+use Prim.Native.Nat.{_≤_, _-_}
 use Rattle.listing.proofs.copy_words.Statement.{statement}
 use Rattle.listing.proofs.copy_words.Tie as tie
 

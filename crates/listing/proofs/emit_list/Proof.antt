@@ -1,10 +1,8 @@
 use Prim.Native.Nat.{ℕ, _+_, _≤_}
 use mathlib.Core.Path.{_≡_, refl, ap, _∙_}
-use mathlib.Core.Bool.{_&&_}
 use mathlib.Core.List.{List, _++_}
 use native.Mathlib.Nat.{mul-le-mul}
 use native.Mathlib.Omega.{arith}
-use lib.Dec.{ltb}
 use lib.ListN.{length, take, length-append}
 use borrow.Author.Needs.{needs}
 use borrow.Kind.Array.{good-length, eInt}
@@ -12,7 +10,7 @@ use mir.Syntax.{w16}
 use Rattle.lists.proofs.Choice.{either-way}
 use Rattle.lists.specs.Counted.{bit}
 use Rattle.lists.proofs.Written.{written-append, written-take}
-use Rattle.counts.specs.Counts.{ceilLog2}
+use Rattle.counts.specs.Counts.{ceilLog2, orientSent}
 use Rattle.context.specs.Map.{linesOf, lengthOf}
 use Rattle.literals.specs.Words.{rawWidth}
 use Rattle.accept.specs.Palette.{Palette, firstColors, paletteOf}
@@ -81,7 +79,7 @@ module _ (s : tie.Start) where
   cells-few : length (s .args .map .now) ≤ 4096
   cells-few = let f = known in omega (arith, f .mapLength, mul-le-mul (f .wideMost) (f .highMost))
 
-  raw : rawWidth list ≡ rawWidth colors + (bit (ltb (s .args .width) 64 && ltb (s .args .height) 64) + ceilLog2 (s .args .n))
+  raw : rawWidth list ≡ rawWidth colors + (bit (orientSent (s .args .width) (s .args .height)) + ceilLog2 (s .args .n))
   raw =
       let f = known in
       let t = s .args .transposed in

@@ -4,12 +4,11 @@ use lib.IntN.{pos}
 use Rattle.listing.proofs.Values.{value-more, take-all}
 use Rattle.listing.specs.Listing.{valuesOf}
 use borrow.Author.Needs.{needs}
-use lib.ListN.{length, take, drop, set, length-set}
-use lib.Ieee.{Float}
+use lib.ListN.{length, take, drop, length-set}
 use native.Mathlib.Omega.{arith}
-use mathlib.Core.List.{List, _++_}
-use mathlib.Core.Path.{_≡_, refl, ap, _∙_}
-use Prim.Native.Nat.{ℕ, _≤_, _<_, _-_}
+use mathlib.Core.List.{_++_}
+use mathlib.Core.Path.{_≡_, refl, _∙_}
+use Prim.Native.Nat.{_≤_, _-_}
 use Rattle.listing.proofs.fill_values.Statement.{statement}
 use Rattle.listing.proofs.fill_values.Tie as tie
 

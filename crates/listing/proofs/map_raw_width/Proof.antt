@@ -1,4 +1,5 @@
 use Prim.Native.Nat.{_≤_}
+use mathlib.Core.Path.{sym, _∙_}
 use native.Mathlib.Omega.{arith}
 use borrow.Author.Needs.{needs}
 use Rattle.counts.specs.Counts.{ceilLog2}
@@ -16,17 +17,29 @@ cast-ceil-log2 c = search needs
 ceil-log2-requires : tie.Need-ceil-log2-requires
 ceil-log2-requires c κs = search needs
 
+orient-sent-requires : tie.Need-orient-sent-requires
+orient-sent-requires c κs = search needs
+
 add-result : tie.Need-add-result
-add-result c = omega (arith, c .before .ceil-log2 .ensures, narrow (c .before))
+add-result c = let l = c .before .before in omega (arith, l .ceil-log2 .ensures, narrow l)
 
 returns : tie.Need-returns
 returns c =
-    rw (c .if1 .taken) (omega (arith, c .before .ceil-log2 .ensures), omega (arith, c .before .ceil-log2 .ensures, narrow (c .before)))
+    let l = c .before .before in
+    rw (sym (c .before .orient-sent .ensures) ∙ c .if1 .taken) (omega (arith, l .ceil-log2 .ensures), omega (arith, l .ceil-log2 .ensures, narrow l))
 
 returns-2 : tie.Need-returns-2
 returns-2 c =
-    rw (c .if1 .left) (omega (arith, c .before .ceil-log2 .ensures), omega (arith, c .before .ceil-log2 .ensures, narrow (c .before)))
+    let l = c .before .before in
+    rw (sym (c .before .orient-sent .ensures) ∙ c .if1 .left) (omega (arith, l .ceil-log2 .ensures), omega (arith, l .ceil-log2 .ensures, narrow l))
 
 pub map-raw-width-spec : {M : Type 1} → statement M
 map-raw-width-spec =
-    tie.close (tie.spec cast-ceil-log2 ceil-log2-requires add-result returns returns-2)
+    tie.close
+    (tie.spec
+    cast-ceil-log2
+    ceil-log2-requires
+    orient-sent-requires
+    add-result
+    returns
+    returns-2)

@@ -1,9 +1,8 @@
 use Prim.Native.Nat.{ℕ, _≤_, _<_, _*_}
 use mathlib.Core.Path.{_≡_, refl, sym, ap, _∙_}
-use mathlib.Core.List.{List, [], _++_}
+use mathlib.Core.List.{List, []}
 use native.Mathlib.Omega.{arith}
-use lib.Ieee.{Float}
-use lib.ListN.{length, take, drop, getD}
+use lib.ListN.{length, getD}
 use borrow.Author.Needs.{needs}
 use borrow.Author.Tests.{ne-eqb, le-leb, lt-leb}
 use borrow.Kind.Array.{good-length, eInt}
@@ -12,7 +11,7 @@ use Rattle.accept.specs.Palette.{Palette, firstColors, paletteOf}
 use Rattle.accept.specs.Accepted.{refusal, Accepted}
 use Rattle.accept.proofs.Accepted.{Facts, accepted-of-zero, facts}
 use Rattle.accept.proofs.Levels.{first-colors, length-given}
-use Rattle.listing.specs.Listing.{valuesOf, predNumber, Predicts}
+use Rattle.listing.specs.Listing.{valuesOf, predNumber}
 use Rattle.listing.proofs.Values.{values-first}
 use Rattle.listing.proofs.pred.Statement.{statement}
 use Rattle.listing.proofs.pred.Tie as tie

@@ -1,5 +1,5 @@
 use Rattle.counts.specs.Counts.{ceilLog2}
-use Prim.Native.Nat.{ℕ, _≤_, _/_, _%_}
+use Prim.Native.Nat.{_≤_, _/_, _%_}
 use Rattle.counts.proofs.Log.{ceil-least}
 use Rattle.literals.specs.Words.{rawBits}
 use borrow.Author.Tests.{eq-eqb, ne-eqb}

@@ -1,17 +1,15 @@
-use Rattle.map_search.proofs.Laws.{next-by, rest-turn, rest-none, length-put, put-below, line-plain}
-use Rattle.map_search.specs.declared.MapResult.the-variants.{Beaten}
+use Rattle.map_search.proofs.Walk.{Turned, goesOn, turned, rest-none}
 use Rattle.map_search.specs.declared.Choice.{Choice}
-use Rattle.map_search.specs.Lines.{Walk, reached, restOf, mapOf, next}
+use Rattle.map_search.specs.Lines.{Walk, restOf, mapOf}
 use Rattle.near.specs.Near.{Below}
 use mathlib.Core.List.{List}
-use mathlib.Core.Bool.{cond}
 use native.Mathlib.Nat.{sub-zero}
 use borrow.Author.Needs.{needs}
-use lib.ListN.{length, set, length-set}
-use Prim.Native.Nat.{ℕ, _+_, _-_, _≤_, _<_}
+use lib.ListN.{length, set}
+use Prim.Native.Nat.{ℕ, _+_, _-_, _≤_}
 use native.Mathlib.Omega.{arith}
 use denote.Ref.{now}
-use mathlib.Core.Path.{_≡_, refl, sym, ap, subst, _∙_}
+use mathlib.Core.Path.{_≡_, refl, sym, _∙_}
 use Rattle.map_search.proofs.build_map.Statement.{statement}
 use Rattle.map_search.proofs.build_map.Tie as tie
 
@@ -40,68 +38,37 @@ module _ (c : tie.After-plus Inv-loop μ-loop) where
   put = c .before .before .before .before .choose-line .last .1 .0
 
   -- the walk before the line, and after it
+  abbrev at : ℕ
+  at = inside .before .before .loop .l
+
   abbrev walk : Walk
   walk =
       let l = inside .before .before .loop in
       record { map = l .map; flags = l .flags; ctx = l .ctx; cost = l .cost }
 
-  abbrev at : ℕ
-  at = inside .before .before .loop .l
-
-  abbrev signs : List ℕ
-  signs = set (walk .flags) at (chosen .flag)
-
   abbrev longer : Walk
-  longer = record { map = put; flags = signs; ctx = chosen .flag; cost = c .plus .result }
+  longer = record { map = put; flags = set (walk .flags) at (chosen .flag); ctx = chosen .flag; cost = c .plus .result }
 
-  moved : let a = start .args in
-      next (now (a .src)) (now (a .costs)) (now (a .colors)) (a .n) (a .lambda) (a .s) walk at ≡ longer
-  moved =
+  line : let a = start .args in
+      Turned (now (a .src)) (now (a .costs)) (now (a .colors)) (a .n) (a .lambda) (a .s) (a .head) (a .bound) (a .s .lines) at walk longer
+  line =
       let a = start .args in
       let chose = c .before .before .before .before .choose-line .ensures in
-      next-by (now (a .src)) (now (a .costs)) (now (a .colors)) (a .n) (a .lambda) (a .s) walk at chosen put (c .plus .result)
-      (chose .0) (chose .1) (c .plus .ensures)
-
-  kept : length put ≡ length (now (start .args .map))
-  kept =
-      let a = start .args in
-      ap length (c .before .before .before .before .choose-line .ensures .1)
-      ∙ length-put (now (a .src)) (now (a .costs)) (now (a .colors)) (a .n) (a .lambda) (a .s) (walk .map) at (walk .ctx) chosen
-      ∙ inside .before .before .loop .inv .1
+      turned (now (a .src)) (now (a .costs)) (now (a .colors)) (a .n) (a .lambda) (a .s) (a .head) (a .bound)
+      (start .pre .1 .0) (start .pre .1 .1) (a .s .lines) at walk chosen put (c .plus .result)
+      (inside .if1 .taken) (inside .before .before .loop .inv .3) (chose .0) (chose .1) (c .plus .ensures)
 
   turn : let a = start .args in
-      mapOf (now (a .src)) (now (a .costs)) (now (a .colors)) (a .n) (a .lambda) (a .s) (a .head) (a .bound)
-      (now (a .map)) (now (a .flags))
-      ≡ cond (reached (now (a .src)) (now (a .costs)) (now (a .colors)) (a .n) (a .lambda) (a .s) (a .head) (a .bound) longer)
-      (record { map = put; flags = signs; result = Beaten })
-      (restOf (now (a .src)) (now (a .costs)) (now (a .colors)) (a .n) (a .lambda) (a .s) (a .head) (a .bound)
-      (a .s .lines - (at + 1)) (at + 1) longer)
-  turn =
-      let a = start .args in
-      sym (inside .before .before .loop .inv .0)
-      ∙ rest-turn (now (a .src)) (now (a .costs)) (now (a .colors)) (a .n) (a .lambda) (a .s) (a .head) (a .bound)
-      (a .s .lines) at walk _ (inside .if1 .taken) moved
+      mapOf (now (a .src)) (now (a .costs)) (now (a .colors)) (a .n) (a .lambda) (a .s) (a .head) (a .bound) (now (a .map)) (now (a .flags))
+      ≡ goesOn (now (a .src)) (now (a .costs)) (now (a .colors)) (a .n) (a .lambda) (a .s) (a .head) (a .bound)
+      (a .s .lines - (at + 1)) (at + 1) longer
+  turn = sym (inside .before .before .loop .inv .0) ∙ line .rest-same
 
-  flags-kept : length signs ≡ length (now (start .args .flags))
-  flags-kept = length-set (walk .flags) at (chosen .flag) ∙ inside .before .before .loop .inv .2
+  map-kept : length put ≡ length (now (start .args .map))
+  map-kept = line .map-kept ∙ inside .before .before .loop .inv .1
 
-  plain : (chosen .flag ≤ 2) × (chosen .index < start .args .n)
-  plain =
-      let a = start .args in
-      subst
-      (λ (k : Choice). (k .flag ≤ 2) × (k .index < a .n))
-      (sym (c .before .before .before .before .choose-line .ensures .0))
-      (line-plain (now (a .src)) (now (a .costs)) (now (a .colors)) (a .n) (a .lambda) (a .s) (walk .map) at (walk .ctx)
-      (omega (arith, start .pre .1 .0)))
-
-  below : Below put (start .args .n)
-  below =
-      let a = start .args in
-      subst
-      (λ (m : List ℕ). Below m (a .n))
-      (sym (c .before .before .before .before .choose-line .ensures .1))
-      (put-below (now (a .src)) (now (a .costs)) (now (a .colors)) (a .n) (a .lambda) (a .s) (walk .map) at (walk .ctx) chosen
-      (omega (arith, start .pre .1 .0)) (start .pre .1 .1) (plain .1) (inside .before .before .loop .inv .3))
+  flags-kept : length (longer .flags) ≡ length (now (start .args .flags))
+  flags-kept = line .flags-kept ∙ inside .before .before .loop .inv .2
 
 loop-holds : tie.Need-loop-holds Inv-loop μ-loop
 loop-holds c = (rw sub-zero refl, refl, refl, c .before .before .before .before .pre .1 .3, omega arith, omega arith)
@@ -126,7 +93,7 @@ plus-requires : tie.Need-plus-requires Inv-loop μ-loop
 plus-requires c κs = search needs
 
 same-length : tie.Need-same-length Inv-loop μ-loop
-same-length c = kept (c .before .before .before)
+same-length c = map-kept (c .before .before .before)
 
 same-length-2 : tie.Need-same-length-2 Inv-loop μ-loop
 same-length-2 c = flags-kept (c .before .before .before)
@@ -149,10 +116,10 @@ loop-again : tie.Need-loop-again Inv-loop μ-loop
 loop-again c =
     let p = c .before .before .before .before in (
       rw (c .wide .ensures) (sym (turn p ∙ rw (c .before .if2 .left) refl)),
-      kept p,
+      map-kept p,
       flags-kept p,
-      below p,
-      rw (c .wide .ensures) (omega (arith, plain p .0)),
+      line p .below,
+      rw (c .wide .ensures) (omega (arith, line p .context)),
       omega (arith, inside p .if1 .taken),
     )
 

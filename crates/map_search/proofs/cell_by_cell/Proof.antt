@@ -1,4 +1,4 @@
-use Rattle.map_search.proofs.Laws.{cells-below, cells-by}
+use Rattle.map_search.proofs.LineCells.{cells-below, cells-by}
 use Rattle.near.specs.Near.{Below}
 use mathlib.Core.Logic.{inl, inr}
 use Rattle.map_search.specs.Lines.{Cells, cellsOf, placeAt}

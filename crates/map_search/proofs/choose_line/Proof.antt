@@ -12,7 +12,10 @@ use Rattle.map_search.specs.declared.Choice.{Choice}
 use Rattle.map_search.specs.Lines.{rowCost}
 use Rattle.map_search.specs.Parts.{Halted}
 use Rattle.map_search.specs.Sound.{Sound}
-use Rattle.map_search.proofs.Laws.{sound-mono, length-cells, best-plain, Plain, put-plain}
+use Rattle.map_search.proofs.Scans.{sound-mono}
+use Rattle.map_search.proofs.LineCells.{length-cells}
+use Rattle.map_search.proofs.LineChoice.{Plain, best-plain}
+use Rattle.map_search.proofs.PutLine.{put-plain}
 use Rattle.map_search.proofs.Stop.{own-wins, own-loses}
 use Rattle.map_search.proofs.choose_line.Statement.{statement}
 use Rattle.map_search.proofs.choose_line.Tie as tie
@@ -53,11 +56,11 @@ module _ (c : tie.After-cell-by-cell) where
       (c .before .before .before .before .row-cost .ensures)
       (c .cell-by-cell .ensures)
 
-  plain : let a = start c .args in Plain src costs colors (a .n) (a .lambda) (a .s) (a .l) best
+  plain : let a = start c .args in Plain (a .n) (a .l) best
   plain =
       let a = start c .args in
       subst
-      (Plain src costs colors (a .n) (a .lambda) (a .s) (a .l))
+      (Plain (a .n) (a .l))
       (sym (c .before .before .before .before .before .line-best .ensures))
       (best-plain src costs colors (a .n) (a .lambda) (a .s) map (a .l) (a .ctx) (omega (arith, start c .pre .1 .0)))
 
@@ -116,8 +119,8 @@ returns-2 c =
           (p .before .before .before .before .before .line-best .ensures) (p .before .before .total .ensures) H not-less,
       c .before .before .put-best .ensures
           ∙ rw (H .put)
-          (put-plain (src p) (costs p) (colors p) (S .args .n) (S .args .lambda) (S .args .s) (length (src p)) (S .pre .0 .0)
-          (map p) (S .args .l) (S .args .ctx) (S .pre .0 .3) (H .cells) (H .few) (best p) (plain p)),
+          (put-plain (src p) (costs p) (colors p) (S .args .n) (S .args .lambda) (S .args .s) (map p) (S .args .l) (S .args .ctx)
+          (length (src p)) (S .pre .0 .0) (S .pre .0 .3) (H .cells) (H .few) (best p) (plain p)),
     )
 
 pub choose-line-spec : {M : Type 1} → statement M

@@ -16,8 +16,11 @@ Inv-loop src colors s l t₀ a₀ t a = (t ≡ eight (λ c. distLine src colors 
 abbrev μ-loop : tie.MeasureT-loop
 μ-loop src colors s l t₀ a₀ t a = s .len - a
 
-inside : (c : tie.Then1 Inv-loop μ-loop) → placeAt (c .before .before .before .before .args .s) (c .before .before .before .before .args .l) (c .before .before .loop .a) < length (now (c .before .before .before .before .args .src))
-inside c = c .before .before .before .before .pre .0 .inside (c .before .before .before .before .args .l) (c .before .before .loop .a) (c .before .before .before .before .pre .1) (c .if1 .taken)
+inside : (c : tie.Then1 Inv-loop μ-loop) → let a = c .before .before .before .before .args in
+    placeAt (a .s) (a .l) (c .before .before .loop .a) < length (now (a .src))
+inside c =
+    let s = c .before .before .before .before in
+    s .pre .0 .inside (s .args .l) (c .before .before .loop .a) (s .pre .1) (c .if1 .taken)
 
 loop-holds : tie.Need-loop-holds Inv-loop μ-loop
 unfolding distLine
@@ -43,10 +46,18 @@ loop-less c = omega (arith, c .before .before .before .if1 .taken)
 
 loop-again : tie.Need-loop-again Inv-loop μ-loop
 unfolding distLine
-loop-again c = let l = c .before .before .before .before .before .loop in (rw (add-one, distLine, c .add-squares .ensures, c .before .before .place .ensures, l .inv .0) refl, omega (arith, c .before .before .before .if1 .taken))
+loop-again c =
+    let l = c .before .before .before .before .before .loop in (
+      rw (add-one, distLine, c .add-squares .ensures, c .before .before .place .ensures, l .inv .0) refl,
+      omega (arith, c .before .before .before .if1 .taken),
+    )
 
 returns : tie.Need-returns Inv-loop μ-loop
-returns c = let e : c .before .before .loop .a ≡ c .before .before .before .before .args .s .len = omega (arith, c .if1 .left, c .before .before .loop .inv .1) in let a = c .before .before .before .before .args in c .before .before .loop .inv .0 ∙ ap (λ (k : ℕ). eight (λ i. distLine (now (a .src)) (now (a .colors)) (a .s) (a .l) (λ b. i) k)) e
+returns c =
+    let l = c .before .before .loop in
+    let a = c .before .before .before .before .args in
+    let all : l .a ≡ a .s .len = omega (arith, c .if1 .left, l .inv .1) in
+    l .inv .0 ∙ ap (λ (k : ℕ). eight (λ i. distLine (now (a .src)) (now (a .colors)) (a .s) (a .l) (λ b. i) k)) all
 
 pub const-dists-spec : {M : Type 1} → statement M
 const-dists-spec =

@@ -1,5 +1,5 @@
 use mathlib.Core.List.{List}
-use Rattle.map_search.proofs.Laws.{fill-other}
+use Rattle.map_search.proofs.Fill.{fill-other}
 use Rattle.map_search.specs.Lines.{placeAt, cellIn, fill}
 use native.Mathlib.Numerals.{add-one}
 use lib.ListN.{length, set, length-set}
@@ -16,17 +16,29 @@ Inv-loop map₀ s l a₀ map a = (map ≡ fill s l (λ b. cellIn map₀ s (l - 1
 abbrev μ-loop : tie.MeasureT-loop
 μ-loop map₀ s l a₀ map a = s .len - a
 
-inside : (c : tie.Then1 Inv-loop μ-loop) → placeAt (c .before .before .before .before .args .s) (c .before .before .before .before .args .l) (c .before .before .loop .a) < length (now (c .before .before .before .before .args .map))
-inside c = c .before .before .before .before .pre .0 .inside (c .before .before .before .before .args .l) (c .before .before .loop .a) (c .before .before .before .before .pre .1) (c .if1 .taken)
+inside : (c : tie.Then1 Inv-loop μ-loop) → let a = c .before .before .before .before .args in
+    placeAt (a .s) (a .l) (c .before .before .loop .a) < length (now (a .map))
+inside c =
+    let s = c .before .before .before .before in
+    s .pre .0 .inside (s .args .l) (c .before .before .loop .a) (s .pre .1) (c .if1 .taken)
 
-above : (c : tie.Then1 Inv-loop μ-loop) → placeAt (c .before .before .before .before .args .s) (c .before .before .before .before .args .l - 1) (c .before .before .loop .a) < length (now (c .before .before .before .before .args .map))
-above c = c .before .before .before .before .pre .0 .inside (c .before .before .before .before .args .l - 1) (c .before .before .loop .a) (omega (arith, c .before .before .before .before .pre .1)) (c .if1 .taken)
+above : (c : tie.Then1 Inv-loop μ-loop) → let a = c .before .before .before .before .args in
+    placeAt (a .s) (a .l - 1) (c .before .before .loop .a) < length (now (a .map))
+above c =
+    let s = c .before .before .before .before in
+    s .pre .0 .inside (s .args .l - 1) (c .before .before .loop .a) (omega (arith, s .pre .1)) (c .if1 .taken)
 
 -- what is read is what stood there at first
-read : (c : tie.Then1 Inv-loop μ-loop) → cellIn (c .before .before .loop .map) (c .before .before .before .before .args .s) (c .before .before .before .before .args .l - 1) (c .before .before .loop .a) ≡ cellIn (now (c .before .before .before .before .args .map)) (c .before .before .before .before .args .s) (c .before .before .before .before .args .l - 1) (c .before .before .loop .a)
+read : (c : tie.Then1 Inv-loop μ-loop) → let a = c .before .before .before .before .args in
+    let l = c .before .before .loop in
+    cellIn (l .map) (a .s) (a .l - 1) (l .a) ≡ cellIn (now (a .map)) (a .s) (a .l - 1) (l .a)
 read c =
-    let a = c .before .before .before .before .args in
-    rw (c .before .before .loop .inv .0) (fill-other (a .s) _ (c .before .before .before .before .pre .0) (a .l) (c .before .before .before .before .pre .1) (λ b. cellIn (now (a .map)) (a .s) (a .l - 1) b) (now (a .map)) (c .before .before .loop .a) (a .l - 1) (c .before .before .loop .a) (omega (arith, c .before .before .before .before .pre .1)) (λ e. omega (arith, c .before .before .before .before .pre .2)) (c .if1 .taken) (c .before .before .loop .inv .2))
+    let s = c .before .before .before .before in
+    let a = s .args in
+    let l = c .before .before .loop in
+    rw (l .inv .0)
+    (fill-other (a .s) _ (s .pre .0) (a .l) (s .pre .1) (λ b. cellIn (now (a .map)) (a .s) (a .l - 1) b) (now (a .map)) (l .a) (a .l - 1) (l .a)
+    (omega (arith, s .pre .1)) (λ e. omega (arith, s .pre .2)) (c .if1 .taken) (l .inv .2))
 
 loop-holds : tie.Need-loop-holds Inv-loop μ-loop
 unfolding fill
@@ -55,13 +67,24 @@ loop-less c = omega (arith, c .before .before .before .if1 .taken)
 
 loop-again : tie.Need-loop-again Inv-loop μ-loop
 unfolding fill
-loop-again c = let l = c .before .before .before .before .before .loop in (rw (add-one, fill, c .place2 .ensures, c .before .before .place .ensures, read (c .before .before .before)) (ap (λ (f : List ℕ). set f (placeAt (c .before .before .before .before .before .before .before .args .s) (c .before .before .before .before .before .before .before .args .l) (l .a)) (cellIn (now (c .before .before .before .before .before .before .before .args .map)) (c .before .before .before .before .before .before .before .args .s) (c .before .before .before .before .before .before .before .args .l - 1) (l .a))) (l .inv .0)), length-set (l .map) (c .place2 .result) _ ∙ l .inv .1, omega (arith, c .before .before .before .if1 .taken))
+loop-again c =
+    let l = c .before .before .before .before .before .loop in
+    let a = c .before .before .before .before .before .before .before .args in
+    let written : List ℕ → List ℕ = λ m. set m (placeAt (a .s) (a .l) (l .a)) (cellIn (now (a .map)) (a .s) (a .l - 1) (l .a)) in (
+      rw (add-one, fill, c .place2 .ensures, c .before .before .place .ensures, read (c .before .before .before)) (ap written (l .inv .0)),
+      length-set (l .map) (c .place2 .result) _ ∙ l .inv .1,
+      omega (arith, c .before .before .before .if1 .taken),
+    )
 
 same-length : tie.Need-same-length Inv-loop μ-loop
 same-length c = c .before .before .loop .inv .1
 
 returns : tie.Need-returns Inv-loop μ-loop
-returns c = let e : c .before .before .loop .a ≡ c .before .before .before .before .args .s .len = omega (arith, c .if1 .left, c .before .before .loop .inv .2) in let a = c .before .before .before .before .args in c .before .before .loop .inv .0 ∙ ap (λ (k : ℕ). fill (a .s) (a .l) (λ b. cellIn (now (a .map)) (a .s) (a .l - 1) b) (now (a .map)) k) e
+returns c =
+    let l = c .before .before .loop in
+    let a = c .before .before .before .before .args in
+    let all : l .a ≡ a .s .len = omega (arith, c .if1 .left, l .inv .2) in
+    l .inv .0 ∙ ap (λ (k : ℕ). fill (a .s) (a .l) (λ b. cellIn (now (a .map)) (a .s) (a .l - 1) b) (now (a .map)) k) all
 
 pub copy-line-spec : {M : Type 1} → statement M
 copy-line-spec =

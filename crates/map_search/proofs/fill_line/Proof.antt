@@ -14,8 +14,11 @@ Inv-loop map₀ s l i a₀ map a = (map ≡ fill s l (λ b. i) map₀ a) × (len
 abbrev μ-loop : tie.MeasureT-loop
 μ-loop map₀ s l i a₀ map a = s .len - a
 
-inside : (c : tie.Then1 Inv-loop μ-loop) → placeAt (c .before .before .before .before .args .s) (c .before .before .before .before .args .l) (c .before .before .loop .a) < length (now (c .before .before .before .before .args .map))
-inside c = c .before .before .before .before .pre .0 .inside (c .before .before .before .before .args .l) (c .before .before .loop .a) (c .before .before .before .before .pre .1) (c .if1 .taken)
+inside : (c : tie.Then1 Inv-loop μ-loop) → let a = c .before .before .before .before .args in
+    placeAt (a .s) (a .l) (c .before .before .loop .a) < length (now (a .map))
+inside c =
+    let s = c .before .before .before .before in
+    s .pre .0 .inside (s .args .l) (c .before .before .loop .a) (s .pre .1) (c .if1 .taken)
 
 loop-holds : tie.Need-loop-holds Inv-loop μ-loop
 unfolding fill
@@ -35,13 +38,23 @@ loop-less c = omega (arith, c .before .if1 .taken)
 
 loop-again : tie.Need-loop-again Inv-loop μ-loop
 unfolding fill
-loop-again c = let l = c .before .before .before .loop in (rw (add-one, fill, c .place .ensures, ← l .inv .0) refl, length-set (l .map) (c .place .result) (c .before .before .before .before .before .args .i) ∙ l .inv .1, omega (arith, c .before .if1 .taken))
+loop-again c =
+    let l = c .before .before .before .loop in
+    let a = c .before .before .before .before .before .args in (
+      rw (add-one, fill, c .place .ensures, ← l .inv .0) refl,
+      length-set (l .map) (c .place .result) (a .i) ∙ l .inv .1,
+      omega (arith, c .before .if1 .taken),
+    )
 
 same-length : tie.Need-same-length Inv-loop μ-loop
 same-length c = c .before .before .loop .inv .1
 
 returns : tie.Need-returns Inv-loop μ-loop
-returns c = let e : c .before .before .loop .a ≡ c .before .before .before .before .args .s .len = omega (arith, c .if1 .left, c .before .before .loop .inv .2) in let a = c .before .before .before .before .args in c .before .before .loop .inv .0 ∙ ap (λ (k : ℕ). fill (a .s) (a .l) (λ b. a .i) (now (a .map)) k) e
+returns c =
+    let l = c .before .before .loop in
+    let a = c .before .before .before .before .args in
+    let all : l .a ≡ a .s .len = omega (arith, c .if1 .left, l .inv .2) in
+    l .inv .0 ∙ ap (λ (k : ℕ). fill (a .s) (a .l) (λ b. a .i) (now (a .map)) k) all
 
 pub fill-line-spec : {M : Type 1} → statement M
 fill-line-spec =

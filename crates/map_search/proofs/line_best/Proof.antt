@@ -1,10 +1,10 @@
-use Rattle.map_search.proofs.Laws.{below-8, best-same}
+use Rattle.map_search.proofs.Fill.{below-8}
+use Rattle.map_search.proofs.Constants.{best-same}
 use Rattle.near.specs.Near.{Usable}
-use Rattle.near.proofs.Laws.{usable}
+use Rattle.map_search.proofs.Neighbours.{near-usable}
 use Rattle.map_search.specs.Lines.{placeAt}
-use Rattle.context.specs.Map.{rowAt, colAt}
 use lib.ListN.{length}
-use Prim.Native.Nat.{_-_, _<_}
+use Prim.Native.Nat.{_<_}
 use native.Mathlib.Omega.{arith}
 use denote.Ref.{now}
 use mathlib.Core.Path.{_∙_}
@@ -19,16 +19,21 @@ fit : (c : tie.After-near-cell) → Usable (c .near-cell .result) (c .before .be
 fit c =
     let s = c .before .before .before .before in
     let a = s .args in
-    rw (c .near-cell .ensures) (usable (now (a .map)) (a .s .w) (rowAt ((a .s) .transposed) (a .l) 0) (colAt ((a .s) .transposed) (a .l) 0) (a .n) (s .pre .1 .3) (omega (arith, s .pre .1 .0)) (s .pre .1 .1))
+    rw (c .near-cell .ensures)
+    (near-usable (now (a .map)) (a .s) (a .l) 0 (a .n) (s .pre .1 .3) (omega (arith, s .pre .1 .0)) (s .pre .1 .1))
 
 near-cell-requires : tie.Need-near-cell-requires
-near-cell-requires c κs = omega (arith, inside (c .before .before .before), c .before .before .before .pre .0 .1, c .before .before .before .pre .0 .0 .major (c .before .before .before .args .l) 0)
+near-cell-requires c κs =
+    let s = c .before .before .before in
+    omega (arith, inside s, s .pre .0 .1, s .pre .0 .0 .major (s .args .l) 0)
 
 cast-v : tie.Need-cast-v
 cast-v c = search needs
 
 rates-requires : tie.Need-rates-requires
-rates-requires c κs = (c .before .before .before .before .before .pre .1 .0, c .before .before .before .before .before .pre .1 .1, fit (c .before) .context, c .before .before .before .before .before .pre .1 .2)
+rates-requires c κs =
+    let s = c .before .before .before .before .before in
+    (s .pre .1 .0, s .pre .1 .1, fit (c .before) .context, s .pre .1 .2)
 
 const-dists-requires : tie.Need-const-dists-requires
 const-dists-requires c κs = search needs
@@ -37,19 +42,45 @@ row-cost-requires : tie.Need-row-cost-requires
 row-cost-requires c κs = search needs
 
 constant-requires : tie.Need-constant-requires
-constant-requires c κs = (omega arith, omega (arith, fit (c .before .before .before .before .before .before) .a, c .before .before .before .before .before .before .before .before .before .before .pre .1 .1))
+constant-requires c κs =
+    let near = c .before .before .before .before .before .before in
+    (omega arith, omega (arith, fit near .a, near .before .before .before .before .pre .1 .1))
 
 row-cost-requires-2 : tie.Need-row-cost-requires-2
-row-cost-requires-2 c κs = (c .before .before .before .before .before .before .before .before .before .before .before .pre .0 .3, omega arith, c .before .before .before .before .before .before .before .before .before .before .before .pre .1 .2)
+row-cost-requires-2 c κs =
+    let s = c .before .before .before .before .before .before .before .before .before .before .before in
+    (s .pre .0 .3, omega arith, s .pre .1 .2)
 
 first-of-requires : tie.Need-first-of-requires
-first-of-requires c κs = (c .before .before .before .before .before .before .before .before .before .before .before .before .pre .0 .0, c .before .before .before .before .before .before .before .before .before .before .before .before .pre .0 .1, c .before .before .before .before .before .before .before .before .before .before .before .before .pre .0 .2, below-8 (now (c .before .before .before .before .before .before .before .before .before .before .before .before .args .map)) (c .before .before .before .before .before .before .before .before .before .before .before .before .args .n) (c .before .before .before .before .before .before .before .before .before .before .before .before .pre .1 .3) (c .before .before .before .before .before .before .before .before .before .before .before .before .pre .1 .1))
+first-of-requires c κs =
+    let s = c .before .before .before .before .before .before .before .before .before .before .before .before in
+    (s .pre .0 .0, s .pre .0 .1, s .pre .0 .2, below-8 (now (s .args .map)) (s .args .n) (s .pre .1 .3) (s .pre .1 .1))
 
 best-const-requires : tie.Need-best-const-requires
-best-const-requires c κs = (c .before .before .before .before .before .before .before .before .before .before .before .before .before .before .before .pre .1 .1, omega (arith, fit (c .before .before .before .before .before .before .before .before .before .before .before) .a, c .before .before .before .before .before .before .before .before .before .before .before .before .before .before .before .pre .1 .1))
+best-const-requires c κs =
+    let near = c .before .before .before .before .before .before .before .before .before .before .before in
+    let s = near .before .before .before .before in
+    (s .pre .1 .1, omega (arith, fit near .a, s .pre .1 .1))
 
 returns : tie.Need-returns
-returns c = let s = c .before .before .before .before .before .before .before .before .before .before .before .before .before .before .before .before in let a = s .args in c .best-const .ensures ∙ rw (c .before .before .before .first-of .ensures, c .before .before .before .before .row-cost2 .ensures, c .before .before .before .before .before .constant .ensures, c .before .before .before .before .before .before .before .before .row-cost .ensures, c .before .before .before .before .before .before .before .before .before .const-dists .ensures, c .before .before .before .before .before .before .before .before .before .before .rates .ensures, c .before .before .before .before .before .before .before .before .before .before .before .before .near-cell .ensures) (best-same (now (a .src)) (now (a .costs)) (now (a .colors)) (a .n) (a .lambda) (a .s) (omega (arith, s .pre .1 .0)) (s .pre .1 .1) (now (a .map)) (a .l) (a .ctx) (s .pre .1 .3))
+returns c =
+    let zero = c .before .before .before .before .before in
+    let dists = zero .before .before .before .before in
+    let near = dists .before .before .before in
+    let s = near .before .before .before .before in
+    let a = s .args in
+    c .best-const .ensures
+    ∙ rw (
+      c .before .before .before .first-of .ensures,
+      c .before .before .before .before .row-cost2 .ensures,
+      zero .constant .ensures,
+      zero .before .before .before .row-cost .ensures,
+      dists .const-dists .ensures,
+      dists .before .rates .ensures,
+      near .near-cell .ensures,
+    )
+    (best-same (now (a .src)) (now (a .costs)) (now (a .colors)) (a .n) (a .lambda) (a .s) (omega (arith, s .pre .1 .0)) (s .pre .1 .1)
+    (now (a .map)) (a .l) (a .ctx) (s .pre .1 .3))
 
 pub line-best-spec : {M : Type 1} → statement M
 line-best-spec =

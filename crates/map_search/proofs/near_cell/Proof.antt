@@ -1,4 +1,3 @@
-use Prim.Native.Nat.{_-_}
 use Rattle.map_search.proofs.near_cell.Statement.{statement}
 use Rattle.map_search.proofs.near_cell.Tie as tie
 

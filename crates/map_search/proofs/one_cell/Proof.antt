@@ -1,10 +1,8 @@
-use Rattle.map_search.specs.Lines.{cellAt}
 use Rattle.near.specs.Near.{Usable}
-use Rattle.near.proofs.Laws.{usable, same-context, same-order}
-use Rattle.map_search.specs.Lines.{placeAt}
-use Rattle.context.specs.Map.{rowAt, colAt}
+use Rattle.map_search.proofs.Neighbours.{near-usable, context-same, order-same}
+use Rattle.map_search.specs.Lines.{placeAt, cellAt}
 use lib.ListN.{length}
-use Prim.Native.Nat.{_-_, _<_}
+use Prim.Native.Nat.{_<_}
 use native.Mathlib.Omega.{arith}
 use denote.Ref.{now}
 use mathlib.Core.Path.{refl, _∙_}
@@ -18,7 +16,8 @@ fit : (c : tie.After-near-cell) → Usable (c .near-cell .result) (c .before .be
 fit c =
     let s = c .before .before .before .before .before .before in
     let a = s .args in
-    rw (c .near-cell .ensures) (usable (now (a .map)) (a .s .w) (rowAt ((a .s) .transposed) (a .l) (a .a)) (colAt ((a .s) .transposed) (a .l) (a .a)) (a .n) (s .pre .1 .3) (omega (arith, s .pre .1 .0)) (s .pre .1 .1))
+    rw (c .near-cell .ensures)
+    (near-usable (now (a .map)) (a .s) (a .l) (a .a) (a .n) (s .pre .1 .3) (omega (arith, s .pre .1 .0)) (s .pre .1 .1))
 
 place-requires : tie.Need-place-requires
 place-requires c κs = omega (arith, inside (c .before .before .before), c .before .before .before .pre .0 .0 .small)
@@ -30,20 +29,40 @@ shared-slice-read-x : tie.Need-shared-slice-read-x
 shared-slice-read-x c = omega (arith, c .before .place .ensures, inside (c .before .before .before .before .before))
 
 near-cell-requires : tie.Need-near-cell-requires
-near-cell-requires c κs = omega (arith, inside (c .before .before .before .before .before), c .before .before .before .before .before .pre .0 .1, c .before .before .before .before .before .pre .0 .0 .major (c .before .before .before .before .before .args .l) (c .before .before .before .before .before .args .a))
+near-cell-requires c κs =
+    let s = c .before .before .before .before .before in
+    omega (arith, inside s, s .pre .0 .1, s .pre .0 .0 .major (s .args .l) (s .args .a))
 
 add-rates : tie.Need-add-rates
-add-rates c = omega (arith, c .before .before .before .before .before .before .pre .0 .2, c .before .before .before .before .before .before .pre .0 .3, c .before .before .before .before .before .before .pre .0 .0 .short, c .before .before .before .before .before .before .pre .0 .0 .few)
+add-rates c =
+    let s = c .before .before .before .before .before .before in
+    omega (arith, s .pre .0 .2, s .pre .0 .3, s .pre .0 .0 .short, s .pre .0 .0 .few)
 
 rates-requires : tie.Need-rates-requires
-rates-requires c κs = (c .before .before .before .before .before .before .pre .1 .0, c .before .before .before .before .before .before .pre .1 .1, fit c .context, c .before .before .before .before .before .before .pre .1 .2)
+rates-requires c κs =
+    let s = c .before .before .before .before .before .before in
+    (s .pre .1 .0, s .pre .1 .1, fit c .context, s .pre .1 .2)
 
 choose-cell-requires : tie.Need-choose-cell-requires
-choose-cell-requires c κs = (fit (c .before .before), omega (arith, c .before .before .before .before .before .before .before .before .pre .1 .0), c .before .before .before .before .before .before .before .before .pre .1 .1)
+choose-cell-requires c κs =
+    let s = c .before .before .before .before .before .before .before .before in
+    (fit (c .before .before), omega (arith, s .pre .1 .0), s .pre .1 .1)
 
 returns : tie.Need-returns
 unfolding cellAt
-returns c = let s = c .before .before .before .before .before .before .before .before .before in let a = s .args in c .choose-cell .ensures ∙ rw (c .before .before .rates .ensures, c .before .before .before .near-cell .ensures, c .before .before .before .before .before .place .ensures, same-order (now (a .map)) (a .s .w) (rowAt ((a .s) .transposed) (a .l) (a .a)) (colAt ((a .s) .transposed) (a .l) (a .a)) (a .n) (omega (arith, s .pre .1 .0)), same-context) refl
+returns c =
+    let near = c .before .before .before in
+    let s = near .before .before .before .before .before .before in
+    let a = s .args in
+    c .choose-cell .ensures
+    ∙ rw (
+      c .before .before .rates .ensures,
+      near .near-cell .ensures,
+      near .before .before .place .ensures,
+      order-same (now (a .map)) (a .s) (a .l) (a .a) (a .n) (omega (arith, s .pre .1 .0)),
+      context-same (now (a .map)) (a .s) (a .l) (a .a),
+    )
+    refl
 
 pub one-cell-spec : {M : Type 1} → statement M
 one-cell-spec =

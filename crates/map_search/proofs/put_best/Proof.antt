@@ -1,5 +1,4 @@
 use borrow.Author.Tests.{eq-eqb, ne-eqb}
-use Prim.Native.Nat.{_-_}
 use borrow.Author.Needs.{needs}
 use Rattle.map_search.proofs.put_best.Statement.{statement}
 use Rattle.map_search.proofs.put_best.Tie as tie
@@ -8,7 +7,9 @@ fill-line-requires : tie.Need-fill-line-requires
 fill-line-requires c κs = search needs
 
 copy-line-requires : tie.Need-copy-line-requires
-copy-line-requires c κs = (c .before .before .before .before .pre .0, c .before .before .before .before .pre .1, c .before .before .before .before .pre .2 (c .before .if1 .left))
+copy-line-requires c κs =
+    let s = c .before .before .before .before in
+    (s .pre .0, s .pre .1, s .pre .2 (c .before .if1 .left))
 
 same-length : tie.Need-same-length
 same-length c = search needs

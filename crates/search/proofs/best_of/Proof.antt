@@ -1,14 +1,18 @@
 use mathlib.Core.Path.{_≡_, refl, ap, _∙_}
 use mathlib.Core.Bool.{false}
+use mathlib.Core.List.{List}
 use native.Mathlib.Nat.{lt-of-le-of-lt, mul-le-mul, le-refl}
 use denote.Ref.{now}
 use lib.Dec.{lit<}
 use lib.ListN.{length, replicate}
-use lib.Ieee.{inf, binary32, div, ofBits}
+use lib.Ieee.{Float, inf, binary32, div, ofBits}
 use borrow.Author.Needs.{needs}
-use Rattle.sizes.proofs.Order.{opened, SizeTo}
+use Rattle.sizes.proofs.Levels.{SizeTo}
+use Rattle.sizes.proofs.Open.{opened}
+use Rattle.search.specs.declared.Best.{Best}
 use Rattle.search.proofs.Tries.{still-ready}
-use Rattle.search.proofs.Walk.{Walking, walking-starts, walking-ends, size-known, walking-stops, walking-goes-on, fewer-left}
+use Rattle.search.proofs.Walk.{Bounds, Walking, walking-starts, walking-ends, size-known, walking-stops}
+use Rattle.search.proofs.Walk.{walking-goes-on, fewer-left}
 use Rattle.search.proofs.best_of.Statement.{statement}
 use Rattle.search.proofs.best_of.Tie as tie
 
@@ -23,13 +27,32 @@ over-zero : div binary32 (ofBits binary32 1065353216) (ofBits binary32 0) ≡ in
 unfolding ofBits div
 over-zero = refl
 
+-- the code's best before there is one
+abbrev none-with : Float → Best
+none-with total = record { total = total; n = 0; colors = replicate 8 0; transposed = false; bits = ofBits binary32 0 }
+
+abbrev start : tie.At-loop Inv-loop μ-loop → tie.Start Inv-loop μ-loop
+start l = l .before .before .before .before .before .before .before .before .before .before
+
+abbrev lbs : tie.At-loop Inv-loop μ-loop → List Float
+lbs l = l .before .before .before .before .before .lbs-of .result
+
+bounds : (l : tie.At-loop Inv-loop μ-loop) → let a = start l .args in Bounds (now (a .costs)) (a .b) (a .h) (lbs l)
+bounds l = l .before .before .before .before .before .lbs-of .ensures
+
+-- a turn that tries its size, and the start of that turn
+abbrev tries : tie.After-next-size2 Inv-loop μ-loop → tie.Else1 Inv-loop μ-loop
+tries c = c .before .before .before .before .before .before .before .before .before .before .before
+
+abbrev turn : tie.Else1 Inv-loop μ-loop → tie.In-loop Inv-loop μ-loop
+turn c = c .before .before
+
 -- the size in turn is one that the block has
-known : (c : tie.In-loop Inv-loop μ-loop) → SizeTo (c .before .before .before .before .before .before .before .before .before .before .before .args .h .n) (c .before .loop .k)
+known : (c : tie.In-loop Inv-loop μ-loop) → SizeTo (start (c .before) .args .h .n) (c .before .loop .k)
 known c =
-    let a = c .before .before .before .before .before .before .before .before .before .before .before .args in
-    let l = c .before .loop in
-    size-known (now (a .samples)) (now (a .costs)) (a .b) (a .h) _ (c .before .before .before .before .before .before .lbs-of .ensures) (l .left) (l .best) (l .k) (l .map) (l .flags)
-    (l .inv .2) (c .loop-test .taken)
+    let a = start (c .before) .args in
+    size-known (now (a .samples)) (now (a .costs)) (a .b) (a .h) (lbs (c .before)) (bounds (c .before)) (c .before .loop .inv .2)
+    (c .loop-test .taken)
 
 lbs-of-requires : tie.Need-lbs-of-requires Inv-loop μ-loop
 lbs-of-requires c κs = c .before .before .before .before .pre .0
@@ -42,12 +65,13 @@ next-size-requires c κs = search needs
 
 loop-holds : tie.Need-loop-holds Inv-loop μ-loop
 loop-holds c =
-    let a = c .before .before .before .before .before .before .before .before .before .args in (
+    let a = c .before .before .before .before .before .before .before .before .before .args in
+    let lbs-are = c .before .before .before .before .lbs-of .ensures in
+    let all-open = c .before .before .before .open-sizes .ensures in
+    let none-is = ap none-with over-zero in (
       refl,
       refl,
-      walking-starts (now (a .samples)) (now (a .costs)) (a .b) (a .h) _ (c .before .before .before .before .lbs-of .ensures) _ _ _ _ _
-          (c .before .before .before .open-sizes .ensures) (ap (λ x. record { total = x; n = 0; colors = replicate 8 0; transposed = false; bits = ofBits binary32 0 }) over-zero)
-          (c .next-size .ensures),
+      walking-starts (now (a .samples)) (now (a .costs)) (a .b) (a .h) _ lbs-are _ _ _ _ _ all-open none-is (c .next-size .ensures),
     )
 
 mul-if1 : tie.Need-mul-if1 Inv-loop μ-loop
@@ -64,47 +88,49 @@ same-length-2 c = c .before .before .before .loop .inv .1
 
 returns : tie.Need-returns Inv-loop μ-loop
 returns c =
-    let a = c .before .before .before .before .before .before .before .before .before .before .before .before .before .args in
-    let l = c .before .before .before .loop in
-    walking-stops (now (a .samples)) (now (a .costs)) (a .b) (a .h) _ (c .before .before .before .before .before .before .before .before .lbs-of .ensures) (l .left) (l .best) (l .k) (l .map) (l .flags)
-    (l .inv .2) (c .before .before .loop-test .taken) (c .if1 .taken)
+    let l = c .before .before .before in
+    let a = start l .args in
+    walking-stops (now (a .samples)) (now (a .costs)) (a .b) (a .h) (lbs l) (bounds l) (l .loop .inv .2)
+    (c .before .before .loop-test .taken) (c .if1 .taken)
 
 size-of-requires : tie.Need-size-of-requires Inv-loop μ-loop
-size-of-requires c κs = let k = known (c .before .before) in (c .before .before .before .before .before .before .before .before .before .before .before .before .before .pre .0, k)
+size-of-requires c κs = (start (turn c .before) .pre .0, known (turn c))
 
 try-size-requires : tie.Need-try-size-requires Inv-loop μ-loop
 try-size-requires c κs =
-    let k = known (c .before .before .before .before .before) in
-    let l = c .before .before .before .before .before .before .loop in
-    let e = c .before .before .size-of .ensures in (
-      still-ready _ _ (c .before .before .before .before .before .before .before .before .before .before .before .before .before .before .before .before .pre .1) (l .inv .0) (l .inv .1),
-      rw e (k .0),
-      rw e (k .1),
-    )
+    let t = turn (c .before .before .before) in
+    let lengths = t .before .loop .inv in
+    let size = known t in
+    let is = c .before .before .size-of .ensures in
+    (still-ready _ _ (start (t .before) .pre .1) (lengths .0) (lengths .1), rw is (size .0), rw is (size .1))
 
 array-write-left : tie.Need-array-write-left Inv-loop μ-loop
-array-write-left c = lt-of-le-of-lt (known (c .before .before .before .before .before .before .before .before .before .before) .1) (lit< tt)
+array-write-left c =
+    let t = turn (c .before .before .before .before .before .before .before .before) in
+    lt-of-le-of-lt (known t .1) (lit< tt)
 
 next-size-requires-2 : tie.Need-next-size-requires-2 Inv-loop μ-loop
 next-size-requires-2 c κs = search needs
 
 loop-less : tie.Need-loop-less Inv-loop μ-loop
 loop-less c =
-    let a = c .before .before .before .before .before .before .before .before .before .before .before .before .before .before .before .before .before .before .before .before .before .before .before .before .args in
-    let l = c .before .before .before .before .before .before .before .before .before .before .before .before .before .before .loop in
-    fewer-left (now (a .samples)) (now (a .costs)) (a .b) (a .h) _ (c .before .before .before .before .before .before .before .before .before .before .before .before .before .before .before .before .before .before .before .lbs-of .ensures) (l .left) (l .best) (l .k) (l .map) (l .flags)
-    (l .inv .2) (c .before .before .before .before .before .before .before .before .before .before .before .before .before .loop-test .taken)
+    let t = turn (tries c) in
+    let l = t .before in
+    let a = start l .args in
+    fewer-left (now (a .samples)) (now (a .costs)) (a .b) (a .h) (lbs l) (bounds l) (l .loop .inv .2) (t .loop-test .taken)
 
 loop-again : tie.Need-loop-again Inv-loop μ-loop
 loop-again c =
-    let a = c .before .before .before .before .before .before .before .before .before .before .before .before .before .before .before .before .before .before .before .before .before .before .before .before .args in
-    let l = c .before .before .before .before .before .before .before .before .before .before .before .before .before .before .loop in
-    let t = c .before .before .before .before .before .before .before in (
-      t .try-size .kept .1 .1 .1 .1 .1 .0 ∙ l .inv .0,
-      t .try-size .kept .1 .1 .1 .1 .1 .1 .0 ∙ l .inv .1,
-      walking-goes-on (now (a .samples)) (now (a .costs)) (a .b) (a .h) _ (c .before .before .before .before .before .before .before .before .before .before .before .before .before .before .before .before .before .before .before .lbs-of .ensures) (l .left) (l .best) (l .k) (l .map)
-          (l .flags) (l .inv .2) (c .before .before .before .before .before .before .before .before .before .before .before .before .before .loop-test .taken) (c .before .before .before .before .before .before .before .before .before .before .before .if1 .left) _
-          (c .before .before .before .before .before .before .before .before .before .before .size-of .ensures) _ _ _ _ (t .try-size .ensures (l .inv .2 .standing) (l .inv .2 .stands)) (c .next-size2 .ensures),
+    let t = turn (tries c) in
+    let l = t .before in
+    let a = start l .args in
+    let walk = l .loop .inv .2 in
+    let tried = c .before .before .before .before .before .before .before .try-size in
+    let size = c .before .before .before .before .before .before .before .before .before .before .size-of .ensures in (
+      tried .kept .1 .1 .1 .1 .1 .0 ∙ l .loop .inv .0,
+      tried .kept .1 .1 .1 .1 .1 .1 .0 ∙ l .loop .inv .1,
+      walking-goes-on (now (a .samples)) (now (a .costs)) (a .b) (a .h) (lbs l) (bounds l) walk (t .loop-test .taken)
+          (tries c .if1 .left) _ size _ _ _ _ (tried .ensures (walk .standing) (walk .stands)) (c .next-size2 .ensures),
     )
 
 same-length-3 : tie.Need-same-length-3 Inv-loop μ-loop
@@ -115,10 +141,9 @@ same-length-4 c = c .before .loop .inv .1
 
 returns-2 : tie.Need-returns-2 Inv-loop μ-loop
 returns-2 c =
-    let a = c .before .before .before .before .before .before .before .before .before .before .before .args in
-    let l = c .before .loop in
-    walking-ends (now (a .samples)) (now (a .costs)) (a .b) (a .h) _ (c .before .before .before .before .before .before .lbs-of .ensures) (l .left) (l .best) (l .k) (l .map) (l .flags)
-    (l .inv .2) (c .loop-test .left)
+    let l = c .before in
+    let a = start l .args in
+    walking-ends (now (a .samples)) (now (a .costs)) (a .b) (a .h) (lbs l) (bounds l) (l .loop .inv .2) (c .loop-test .left)
 
 pub best-of-spec : {M : Type 1} → statement M
 best-of-spec =

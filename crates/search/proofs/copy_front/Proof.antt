@@ -1,15 +1,16 @@
-use lib.ListN.{length-set}
-use Rattle.lists.proofs.Rest.{next, done}
-use Rattle.lists.specs.Written.{written}
-use borrow.Author.Needs.{needs}
-use lib.ListN.{length, take, drop}
 use mathlib.Core.Path.{_≡_, refl}
-use Prim.Native.Nat.{ℕ, _≤_, _-_}
+use Prim.Native.Nat.{_≤_, _-_}
+use lib.ListN.{length, take, drop, length-set}
+use borrow.Author.Needs.{needs}
+use Rattle.lists.specs.Written.{written}
+use Rattle.lists.proofs.Rest.{next, done}
 use Rattle.search.proofs.copy_front.Statement.{statement}
 use Rattle.search.proofs.copy_front.Tie as tie
 
 abbrev Inv-loop : tie.InvT-loop
-Inv-loop from count to₀ i₀ to i = (i ≤ count) × (length to ≡ length to₀) × (written to i (drop i (take count from)) ≡ written to₀ 0 (take count from))
+Inv-loop from count to₀ i₀ to i =
+    (i ≤ count) × (length to ≡ length to₀)
+    × (written to i (drop i (take count from)) ≡ written to₀ 0 (take count from))
 
 abbrev μ-loop : tie.MeasureT-loop
 μ-loop from count to₀ i₀ to i = count - i
@@ -31,16 +32,22 @@ loop-less c = search needs
 
 loop-again : tie.Need-loop-again Inv-loop μ-loop
 unfolding written
-loop-again c = let s = c .before .before .before in
+loop-again c =
+    let s = c .before .before .before in
     let l = c .before .before .loop in
-    (search needs, simp length-set (l .inv .1), rw (next (s .args .count) (s .args .from .now) (s .pre .0) (l .i) (c .before .loop-test .taken)) at (l .inv .2))
+    let turn = next (s .args .count) (s .args .from .now) (s .pre .0) (l .i) (c .before .loop-test .taken) in
+    (search needs, simp length-set (l .inv .1), rw turn at (l .inv .2))
 
 same-length : tie.Need-same-length Inv-loop μ-loop
 same-length c = search needs
 
 returns : tie.Need-returns Inv-loop μ-loop
 unfolding written
-returns c = rw (done (c .before .before .args .count) (c .before .before .args .from .now) (c .before .before .pre .0) (c .before .loop .i) (c .loop-test .left)) at (c .before .loop .inv .2)
+returns c =
+    let s = c .before .before in
+    let l = c .before .loop in
+    let end = done (s .args .count) (s .args .from .now) (s .pre .0) (l .i) (c .loop-test .left) in
+    rw end at (l .inv .2)
 
 pub copy-front-spec : {M : Type 1} → statement M
 copy-front-spec =

@@ -1,11 +1,11 @@
 use mathlib.Core.Path.{_≡_, refl, sym, _∙_}
-use mathlib.Core.Bool.{true, cond}
-use Prim.Native.Nat.{_*_}
+use mathlib.Core.Bool.{true, cond, not}
 use native.Mathlib.Nat.{mul-le-mul, lt-of-le-of-lt}
 use denote.Ref.{now}
 use borrow.Author.Needs.{needs}
-use borrow.Author.Tests.{eq-eqb, ne-eqb, not-true, not-false}
+use borrow.Author.Tests.{eq-eqb, ne-eqb}
 use lib.Dec.{lit<}
+use Rattle.lists.proofs.Choice.{fails, holds}
 use Rattle.lists.proofs.Counted.{within-at}
 use Rattle.accept.specs.Accepted.{sidesOk, depthOk}
 use Rattle.accept.proofs.Accepted.{sides-at}
@@ -32,30 +32,31 @@ start6 c = start5 (c .before .before)
 
 -- the tests that were passed
 sides : (c : tie.Else1) → sidesOk (start c .args .b .width) (start c .args .b .height) ≡ true
-sides c = sym (c .before .sides-ok .ensures) ∙ not-false _ (c .if1 .left)
+sides c = holds _ _ (c .before .sides-ok .ensures) (c .if1 .left)
 
 depth : (c : tie.Else2) → depthOk (start2 c .args .b .bd) ≡ true
 unfolding depthOk
-depth c = sym (c .before .within .ensures) ∙ not-false _ (c .if2 .left)
+depth c = holds _ _ (c .before .within .ensures) (c .if2 .left)
 
 lambda : (c : tie.Else4) → lambdaOk (start3 (c .before .before) .args .b .lambda) ≡ true
-lambda c = sym (c .before .lambda-ok .ensures) ∙ not-false _ (c .if4 .left)
+lambda c = holds _ _ (c .before .lambda-ok .ensures) (c .if4 .left)
 
 costs : (c : tie.Else5) → costsOk (now (start5 c .args .costs)) ≡ true
-costs c = sym (c .before .costs-ok .ensures) ∙ not-false _ (c .if5 .left)
+costs c = holds _ _ (c .before .costs-ok .ensures) (c .if5 .left)
 
 samples : (c : tie.Else6) → samplesOk (start6 c .args .b .bd) (now (start6 c .args .samples)) ≡ true
-samples c = sym (c .before .samples-ok .ensures) ∙ not-false _ (c .if6 .left)
+samples c = holds _ _ (c .before .samples-ok .ensures) (c .if6 .left)
 
-rooms : (c : tie.Else7) → let a = start6 (c .before .before) .args in roomsOk (a .b .width) (a .b .height) (a .cells) (a .lines) ≡ true
-rooms c = sym (c .before .rooms-ok .ensures) ∙ not-false _ (c .if7 .left)
+rooms : (c : tie.Else7) → let a = start6 (c .before .before) .args in
+    roomsOk (a .b .width) (a .b .height) (a .cells) (a .lines) ≡ true
+rooms c = holds _ _ (c .before .rooms-ok .ensures) (c .if7 .left)
 
 sides-ok-requires : tie.Need-sides-ok-requires
 sides-ok-requires c κs = search needs
 
 returns : tie.Need-returns
 unfolding faultOf
-returns c = rw (sym (c .before .sides-ok .ensures) ∙ not-true _ (c .if1 .taken)) refl
+returns c = rw (fails _ _ (c .before .sides-ok .ensures) (c .if1 .taken)) refl
 
 cast-within : tie.Need-cast-within
 cast-within c = search needs
@@ -65,7 +66,7 @@ within-requires c κs = search needs
 
 returns-2 : tie.Need-returns-2
 unfolding faultOf depthOk
-returns-2 c = rw (sides (c .before .before .before), sym (c .before .within .ensures) ∙ not-true _ (c .if2 .taken)) refl
+returns-2 c = rw (sides (c .before .before .before), fails _ _ (c .before .within .ensures) (c .if2 .taken)) refl
 
 mul-if3 : tie.Need-mul-if3
 mul-if3 c =
@@ -86,7 +87,7 @@ returns-4 c = let e = c .before .before in
       sides (e .before .before .before .before .before),
       depth (e .before .before),
       eq-eqb _ _ (e .if3 .left),
-      sym (c .before .lambda-ok .ensures) ∙ not-true _ (c .if4 .taken),
+      fails _ _ (c .before .lambda-ok .ensures) (c .if4 .taken),
     ) refl
 
 costs-ok-requires : tie.Need-costs-ok-requires
@@ -100,7 +101,7 @@ returns-5 c = let e = c .before .before .before .before in
       depth (e .before .before),
       eq-eqb _ _ (e .if3 .left),
       lambda (c .before .before),
-      sym (c .before .costs-ok .ensures) ∙ not-true _ (c .if5 .taken),
+      fails _ _ (c .before .costs-ok .ensures) (c .if5 .taken),
     ) refl
 
 samples-ok-requires : tie.Need-samples-ok-requires
@@ -116,7 +117,7 @@ returns-6 c = let e = c .before .before .before .before .before .before in
       eq-eqb _ _ (e .if3 .left),
       lambda (c .before .before .before .before),
       costs (c .before .before),
-      sym (c .before .samples-ok .ensures) ∙ not-true _ (c .if6 .taken),
+      fails _ _ (c .before .samples-ok .ensures) (c .if6 .taken),
     ) refl
 
 rooms-ok-requires : tie.Need-rooms-ok-requires
@@ -127,7 +128,8 @@ rooms-ok-requires c κs =
 -- what is left once the samples have passed
 rest : (c : tie.Else6) → let a = start6 c .args in
     faultOf (now (a .samples)) (now (a .costs)) (a .b) (a .cells) (a .lines)
-    ≡ cond (roomsOk (a .b .width) (a .b .height) (a .cells) (a .lines)) (cond (largeOk (a .b .width) (a .b .height)) 0 8) 7
+    ≡ cond (not (roomsOk (a .b .width) (a .b .height) (a .cells) (a .lines))) 7
+    (cond (not (largeOk (a .b .width) (a .b .height))) 8 0)
 unfolding faultOf
 rest c = let e = c .before .before .before .before .before .before in
     rw (
@@ -140,7 +142,7 @@ rest c = let e = c .before .before .before .before .before .before in
     ) refl
 
 returns-7 : tie.Need-returns-7
-returns-7 c = sym (rest (c .before .before) ∙ rw (sym (c .before .rooms-ok .ensures) ∙ not-true _ (c .if7 .taken)) refl)
+returns-7 c = sym (rest (c .before .before) ∙ rw (fails _ _ (c .before .rooms-ok .ensures) (c .if7 .taken)) refl)
 
 large-ok-requires : tie.Need-large-ok-requires
 large-ok-requires c κs = search needs
@@ -148,12 +150,12 @@ large-ok-requires c κs = search needs
 returns-8 : tie.Need-returns-8
 returns-8 c =
     sym (rest (c .before .before .before .before)
-    ∙ rw (rooms (c .before .before), sym (c .before .large-ok .ensures) ∙ not-true _ (c .if8 .taken)) refl)
+    ∙ rw (rooms (c .before .before), fails _ _ (c .before .large-ok .ensures) (c .if8 .taken)) refl)
 
 returns-9 : tie.Need-returns-9
 returns-9 c =
     sym (rest (c .before .before .before .before)
-    ∙ rw (rooms (c .before .before), sym (c .before .large-ok .ensures) ∙ not-false _ (c .if8 .left)) refl)
+    ∙ rw (rooms (c .before .before), holds _ _ (c .before .large-ok .ensures) (c .if8 .left)) refl)
 
 pub fault-spec : {M : Type 1} → statement M
 fault-spec =

@@ -4,6 +4,13 @@ use borrow.Author.Needs.{needs}
 use Rattle.search.proofs.judge.Statement.{statement}
 use Rattle.search.proofs.judge.Tie as tie
 
+-- the branch where the total is lower, and where the call starts
+abbrev lower : tie.After-colors → tie.Then1
+lower c = c .before .before .before .before .before .before .before .before .before
+
+abbrev start : tie.Then1 → tie.Start
+start c = c .before .before .before .before .before .before .before .before
+
 copy-front-requires : tie.Need-copy-front-requires
 copy-front-requires c κs = search needs
 
@@ -18,19 +25,19 @@ same-length-2 c = search needs
 
 returns : tie.Need-returns
 returns c =
-    let a = c .before .before .before .before .before .before .before .before .before .before .before .before .before .before .before .before .before .args in
-    let e = c .before .before .before .before .before .before .before .before .before in
+    let a = start (lower c) .args in
+    let fits = start (lower c) .pre in
+    let cells = c .before .before .before .before .before .before .before .copy-front .ensures in
+    let lines = c .before .before .before .copy-front2 .ensures in
     λ s S.
-    lower-stands (a .b) (a .z) (a .transposed) (a .best) (a .error) (a .bits) (now (a .cells)) (now (a .lines))
-    (now (a .map)) (now (a .flags)) s S _ _ (c .before .before .before .before .before .before .before .before .before .before .before .before .before .before .before .before .before .pre .0) (c .before .before .before .before .before .before .before .before .before .before .before .before .before .before .before .before .before .pre .1)
-    (c .before .before .before .before .before .before .before .copy-front .ensures) (c .before .before .before .copy-front2 .ensures) (e .if1 .taken)
+    lower-stands (a .b) (a .z) (a .transposed) (a .error) (a .bits) (now (a .cells)) (now (a .lines)) s S _ _
+    (fits .0) (fits .1) cells lines (lower c .if1 .taken)
 
 returns-2 : tie.Need-returns-2
 returns-2 c =
     let a = c .before .before .before .before .before .before .before .before .args in
     λ s S.
-    higher-stands (a .b) (a .z) (a .transposed) (a .best) (a .error) (a .bits) (now (a .cells)) (now (a .lines))
-    (now (a .map)) (now (a .flags)) s S (c .if1 .left)
+    higher-stands (a .b) (a .z) (a .transposed) (a .error) (a .bits) (now (a .cells)) (now (a .lines)) s S (c .if1 .left)
 
 pub judge-spec : {M : Type 1} → statement M
 judge-spec =

@@ -16,22 +16,29 @@ use Rattle.search.proofs.search.Tie as tie
 abbrev block : tie.Start → Block
 block s = record { width = s .args .width; height = s .args .height; bd = s .args .bd; lambda = s .args .lambda }
 
+abbrev start : tie.Else1 → tie.Start
+start c = c .before .before .before .before .before .before
+
 -- the tests 1 to 8 have passed
-ready : (c : tie.Else1) → let s = c .before .before .before .before .before .before in
-    Ready (now (s .args .samples)) (now (s .args .costs)) (block s) (length (now (s .args .map))) (length (now (s .args .flags)))
+ready : (c : tie.Else1) → let a = start c .args in
+    Ready (now (a .samples)) (now (a .costs)) (block (start c)) (length (now (a .map))) (length (now (a .flags)))
 ready c = ready-of-zero _ _ _ _ _ (sym (c .before .fault .ensures) ∙ c .if1 .left)
 
 fault-requires : tie.Need-fault-requires
 fault-requires c κs = search needs
 
 -- they have, so 9 or 10 or 0 is the number
-second : (c : tie.After-levels-fault) → let s = c .before .before .before .before .before .before .before .before in
-    searchNumber (now (s .args .samples)) (now (s .args .costs)) (block s) (length (now (s .args .map))) (length (now (s .args .flags)))
+second : (c : tie.After-levels-fault) → let s = start (c .before .before) in
+    let a = s .args in
+    searchNumber (now (a .samples)) (now (a .costs)) (block s) (length (now (a .map))) (length (now (a .flags)))
     ≡ c .levels-fault .result
 second c =
-    let s = c .before .before .before .before .before .before .before .before in
-    number-second (now (s .args .samples)) (now (s .args .costs)) (block s) (now (s .args .map)) (now (s .args .flags)) _
-    (c .before .before .before .fault .ensures) _ (c .levels-fault .ensures ∙ ap (λ h. levelsFault (h .n)) (c .before .histogram-of .ensures)) (c .before .before .if1 .left)
+    let s = start (c .before .before) in
+    let a = s .args in
+    let passed = c .before .before in
+    let levels = c .levels-fault .ensures ∙ ap (λ h. levelsFault (h .n)) (c .before .histogram-of .ensures) in
+    number-second (now (a .samples)) (now (a .costs)) (block s) (now (a .map)) (now (a .flags)) _
+    (passed .before .fault .ensures) _ levels (passed .if1 .left)
 
 refused-requires : tie.Need-refused-requires
 refused-requires c κs = search needs
@@ -39,16 +46,17 @@ refused-requires c κs = search needs
 returns : tie.Need-returns
 returns c =
     let s = c .before .before .before .before .before .before .before in
-    let f = c .before in
-    let e = f .before .fault .ensures in
-    refuses (now (s .args .samples)) (now (s .args .costs)) (block s) (now (s .args .map)) (now (s .args .flags)) _
-    (number-first (now (s .args .samples)) (now (s .args .costs)) (block s) (now (s .args .map)) (now (s .args .flags)) _ e (f .if1 .taken)) (f .if1 .taken) _ (c .refused .ensures)
+    let a = s .args in
+    let failed = c .before .if1 .taken in
+    let number = number-first (now (a .samples)) (now (a .costs)) (block s) (now (a .map)) (now (a .flags)) _
+    (c .before .before .fault .ensures) failed in
+    refuses (now (a .samples)) (now (a .costs)) (block s) (now (a .map)) (now (a .flags)) _ number failed _
+    (c .refused .ensures)
 
 histogram-of-requires : tie.Need-histogram-of-requires
 histogram-of-requires c κs =
-    let s = c .before .before .before .before .before .before in
     let r = ready c in
-    let few : s .args .width * s .args .height ≤ 64 * 64 = mul-le-mul (r .wideMost) (r .highMost) in
+    let few : start c .args .width * start c .args .height ≤ 64 * 64 = mul-le-mul (r .wideMost) (r .highMost) in
     (r .deep, r .deepMost, omega (arith, r .count), r .sampled)
 
 levels-fault-requires : tie.Need-levels-fault-requires
@@ -59,8 +67,9 @@ refused-requires-2 c κs = search needs
 
 returns-2 : tie.Need-returns-2
 returns-2 c =
-    let s = c .before .before .before .before .before .before .before .before .before .before in
-    refuses (now (s .args .samples)) (now (s .args .costs)) (block s) (now (s .args .map)) (now (s .args .flags)) _
+    let s = start (c .before .before .before .before) in
+    let a = s .args in
+    refuses (now (a .samples)) (now (a .costs)) (block s) (now (a .map)) (now (a .flags)) _
     (second (c .before .before)) (c .before .if2 .taken) _ (c .refused2 .ensures)
 
 search-levels-requires : tie.Need-search-levels-requires
@@ -78,9 +87,12 @@ same-length-2 c = search needs
 
 returns-3 : tie.Need-returns-3
 returns-3 c =
-    let s = c .before .before .before .before .before .before .before .before .before .before .before .before .before .before .before .before in
-    answers (now (s .args .samples)) (now (s .args .costs)) (block s) (now (s .args .map)) (now (s .args .flags)) _ _ _
-    (second (c .before .before .before .before .before .before .before .before) ∙ c .before .before .before .before .before .before .before .if2 .left) (c .before .before .before .before .search-levels .ensures)
+    let test = c .before .before .before .before .before .before .before in
+    let s = start (test .before .before .before) in
+    let a = s .args in
+    let written = c .before .before .before .before .search-levels .ensures in
+    answers (now (a .samples)) (now (a .costs)) (block s) (now (a .map)) (now (a .flags)) _ _ _
+    (second (test .before) ∙ test .if2 .left) written
 
 pub search-spec : {M : Type 1} → statement M
 search-spec =

@@ -1,4 +1,6 @@
-use mathlib.Core.Path.{_≡_, refl}
+use mathlib.Core.Path.{_≡_}
+use mathlib.Core.List.{List}
+use Prim.Native.Nat.{ℕ}
 use denote.Ref.{now}
 use Rattle.map_search.specs.declared.MapResult.{MapResult}
 use Rattle.map_search.specs.declared.MapResult.the-variants.{Found, Beaten}
@@ -12,18 +14,25 @@ use Rattle.search.proofs.try_in.Tie as tie
 abbrev start : tie.After-build-map → tie.Start
 start c = c .before .before .before .before .before .before .before .before .before .before .before .before .before
 
+-- the cells and flags of the built map
+abbrev cells : tie.After-build-map → List ℕ
+cells c = c .build-map .last .1 .1 .1 .1 .1 .1 .1 .1 .0
+
+abbrev lines : tie.After-build-map → List ℕ
+lines c = c .build-map .last .1 .1 .1 .1 .1 .1 .1 .1 .1 .0
+
 -- what the built map says of the definition
-is : (c : tie.After-build-map) (s : Standing) → Stands s (start c .args .best) (now (start c .args .map)) (now (start c .args .flags))
-    → (r : MapResult) → c .build-map .result ≡ r
-    → let a = start c .args in
-    tried (now (a .samples)) (now (a .costs)) (a .b) (a .z) (a .transposed) s
-    ≡ judged (a .b) (a .z) (a .transposed) s (c .build-map .last .1 .1 .1 .1 .1 .1 .1 .1 .0)
-    (c .build-map .last .1 .1 .1 .1 .1 .1 .1 .1 .1 .0) r
+is : (c : tie.After-build-map) → let a = start c .args in
+    (s : Standing) → Stands s (a .best) (now (a .map)) (now (a .flags)) → (r : MapResult) → c .build-map .result ≡ r
+    → tried (now (a .samples)) (now (a .costs)) (a .b) (a .z) (a .transposed) s
+    ≡ judged (a .b) (a .z) (a .transposed) s (cells c) (lines c) r
 is c s S r told =
     let a = start c .args in
+    let zeros = start c .pre .1 in
+    let scan = c .before .before .before .before .before .before .scan-of .ensures in
+    let colours = c .before .before .before .before .values .ensures in
     tried-is (now (a .samples)) (now (a .costs)) (a .b) (a .z) (a .transposed) (a .best) s (S .is) _ _ (now (a .cells))
-    (now (a .lines)) _ _ _ (c .before .before .before .before .before .before .scan-of .ensures) (c .before .before .before .before .values .ensures) (start c .pre .1 .0) (start c .pre .1 .1)
-    (c .build-map .ensures) r told
+    (now (a .lines)) _ _ _ scan colours (zeros .0) (zeros .1) (c .build-map .ensures) r told
 
 scan-of-requires : tie.Need-scan-of-requires
 scan-of-requires c κs = search needs
@@ -34,9 +43,10 @@ values-requires c κs = search needs
 build-map-requires : tie.Need-build-map-requires
 build-map-requires c κs =
     let s = c .before .before .before .before .before .before .before .before .before .before .before .before in
-    let a = s .args in
-    buildable (now (a .samples)) (now (a .costs)) (a .b) _ _ (s .pre .0 .0) (a .transposed) (a .z .n) (s .pre .0 .1) (s .pre .0 .2)
-    _ (now (a .cells)) (now (a .lines)) (c .before .before .before .before .before .scan-of .ensures) (s .pre .1 .0) (s .pre .1 .1)
+    let scan = c .before .before .before .before .before .scan-of .ensures in
+    let ready = s .pre .0 in
+    let zeros = s .pre .1 in
+    buildable (ready .0) (s .args .transposed) _ (ready .1) (ready .2) _ _ _ scan (zeros .0) (zeros .1)
 
 enum-told : tie.Need-enum-told
 enum-told c = search needs
@@ -46,12 +56,11 @@ enum-known-found c = search needs
 
 judge-requires : tie.Need-judge-requires
 judge-requires c κs =
-    let m = c .before .before .before .before .before .before .before .before .before .before .before in
-    let s = start m in
-    let a = s .args in
-    room-for (now (a .samples)) (now (a .costs)) (a .b) _ _ (s .pre .0 .0) (a .transposed) (now (a .cells)) (now (a .lines))
-    (m .build-map .last .1 .1 .1 .1 .1 .1 .1 .1 .0) (m .build-map .last .1 .1 .1 .1 .1 .1 .1 .1 .1 .0)
-    (s .pre .1 .0) (s .pre .1 .1) (m .build-map .kept .1 .1 .1 .1 .1 .1 .1 .1 .0) (m .build-map .kept .1 .1 .1 .1 .1 .1 .1 .1 .1 .0)
+    let built = c .before .before .before .before .before .before .before .before .before .before .before in
+    let s = start built in
+    let kept = built .build-map .kept .1 .1 .1 .1 .1 .1 .1 .1 in
+    room-for (s .pre .0 .0) (s .args .transposed) _ _ (cells built) (lines built) (s .pre .1 .0) (s .pre .1 .1)
+    (kept .0) (kept .1 .0)
 
 same-length : tie.Need-same-length
 same-length c = search needs
@@ -60,7 +69,9 @@ same-length-2 : tie.Need-same-length-2
 same-length-2 c = search needs
 
 returns : tie.Need-returns
-returns c = λ s S. rw (is (c .before .before .before .before .before .before) s S Beaten (c .enum-told .given .1)) S
+returns c =
+    let built = c .before .before .before .before .before .before in
+    λ s S. rw (is built s S Beaten (c .enum-told .given .1)) S
 
 same-length-3 : tie.Need-same-length-3
 same-length-3 c = search needs
@@ -75,7 +86,11 @@ same-length-6 : tie.Need-same-length-6
 same-length-6 c = search needs
 
 returns-2 : tie.Need-returns-2
-returns-2 c = λ s S. rw (is (c .before .before .before .before .before .before .before .before .before .before .before .before .before .before .before .before) s S (Found _ _) (c .before .before .before .before .before .before .before .before .before .before .found .given .1)) (c .before .before .before .before .judge .ensures s S)
+returns-2 c =
+    let judged = c .before .before .before .before in
+    let found = judged .before .before .before .before .before .before in
+    let built = found .before .before .before .before .before .before in
+    λ s S. rw (is built s S (Found _ _) (found .found .given .1)) (judged .judge .ensures s S)
 
 pub try-in-spec : {M : Type 1} → statement M
 try-in-spec =

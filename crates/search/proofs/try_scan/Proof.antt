@@ -3,7 +3,8 @@ use lib.Seq.{length-take-le}
 use Prim.Native.Nat.{ℕ, _*_, _≤_}
 use native.Mathlib.Nat.{mul-le-mul}
 use lib.ListN.{replicate}
-use Rattle.search.proofs.Tries.{take-zeros, lines-most}
+use Rattle.search.proofs.Zeros.{take-zeros}
+use Rattle.search.proofs.Lengths.{lines-most}
 use borrow.Author.Needs.{needs}
 use Rattle.search.proofs.try_scan.Statement.{statement}
 use Rattle.search.proofs.try_scan.Tie as tie
@@ -16,7 +17,8 @@ few-lines : (c : tie.After-lines-of) → c .lines-of .result ≤ 64
 few-lines c =
     let s = c .before .before .before .before .before in
     let b = s .args .b in
-    lines-most (s .args .transposed) (b .width) (b .height) 64 (c .lines-of .ensures) (s .pre .0 .wideMost) (s .pre .0 .highMost)
+    let ready = s .pre .0 in
+    lines-most (s .args .transposed) (b .width) (b .height) 64 (c .lines-of .ensures) (ready .wideMost) (ready .highMost)
 
 lines-of-requires : tie.Need-lines-of-requires
 lines-of-requires c κs = search needs
@@ -28,7 +30,9 @@ array-borrow-prefix-cells : tie.Need-array-borrow-prefix-cells
 array-borrow-prefix-cells c = few-cells (c .before .before .before .before .before .before)
 
 slice-aggregate-try-in : tie.Need-slice-aggregate-try-in
-slice-aggregate-try-in c = sym (length-take-le {A = ℕ} _ (replicate 4096 0) (few-cells (c .before .before .before .before .before .before .before)))
+slice-aggregate-try-in c =
+    let few = few-cells (c .before .before .before .before .before .before .before) in
+    sym (length-take-le {A = ℕ} _ (replicate 4096 0) few)
 
 array-borrow-prefix-lines : tie.Need-array-borrow-prefix-lines
 array-borrow-prefix-lines c = few-lines (c .before .before)
@@ -38,9 +42,10 @@ slice-aggregate-try-in-2 c = sym (length-take-le {A = ℕ} _ (replicate 64 0) (f
 
 try-in-requires : tie.Need-try-in-requires
 try-in-requires c κs =
-    let s = c .before .before .before .before .before .before .before .before .before .before in
     let l = c .before .before .before .before .before in
-    (s .pre, (take-zeros _ 4096 (few-cells s), take-zeros _ 64 (few-lines l) ∙ ap (λ k. replicate {A = ℕ} k 0) (l .lines-of .ensures)))
+    let s = l .before .before .before .before .before in
+    let lines = take-zeros _ 64 (few-lines l) ∙ ap (λ k. replicate {A = ℕ} k 0) (l .lines-of .ensures) in
+    (s .pre, (take-zeros _ 4096 (few-cells s), lines))
 
 same-length : tie.Need-same-length
 same-length c = search needs

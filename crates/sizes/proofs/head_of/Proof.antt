@@ -8,7 +8,7 @@ use lib.Seq.{length-take-le}
 use lib.Ieee.{binary32, ofBits, ofInt, round}
 use Rattle.lists.specs.Counted.{bit}
 use Rattle.ieee.specs.Numbers.{nat}
-use Rattle.sizes.specs.Sizes.{sentFor}
+use Rattle.counts.specs.Counts.{orientSent}
 use Rattle.sizes.proofs.Parts.{head-is}
 use borrow.Author.Needs.{needs}
 use Rattle.sizes.proofs.head_of.Statement.{statement}
@@ -20,8 +20,8 @@ literal-bits-requires c κs = search needs
 cast-literal : tie.Need-cast-literal
 cast-literal c = search needs
 
-sent-for-requires : tie.Need-sent-for-requires
-sent-for-requires c κs = search needs
+orient-sent-requires : tie.Need-orient-sent-requires
+orient-sent-requires c κs = search needs
 
 shared-slice-read-result : tie.Need-shared-slice-read-result
 shared-slice-read-result c = search needs
@@ -47,10 +47,10 @@ int-to-float-result c = search needs
 -- the bit as a float
 sent-is : (c : tie.Joined1)
     → let b = c .before .before .before .before .args .b in
-    c .if1 .sent ≡ nat binary32 (bit (sentFor (b .width) (b .height)))
+    c .if1 .sent ≡ nat binary32 (bit (orientSent (b .width) (b .height)))
 unfolding ofBits ofInt round
 sent-is c =
-    rw (← c .before .sent-for .ensures)
+    rw (← c .before .orient-sent .ensures)
     (⊎-elim (λ w. w .1 ∙ rw (w .0 .taken) refl) (λ w. w .1 ∙ rw (w .0 .left) refl) (c .if1 .came))
 
 returns : tie.Need-returns
@@ -69,7 +69,7 @@ head-of-spec =
     (tie.spec
     literal-bits-requires
     cast-literal
-    sent-for-requires
+    orient-sent-requires
     shared-slice-read-result
     shared-slice-read-result-2
     sub-result

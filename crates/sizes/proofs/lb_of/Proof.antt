@@ -1,8 +1,6 @@
 use mathlib.Core.Path.{refl}
-use mathlib.Core.Bool.{Bool, true, false, cond}
-use Prim.Native.Nat.{ℕ, min, _≤_}
 use native.Mathlib.Omega.{arith}
-use Rattle.sizes.specs.Sizes.{sentFor, fewestLines}
+use Rattle.sizes.proofs.Parts.{fewest-most}
 use borrow.Author.Needs.{needs}
 use Rattle.sizes.proofs.lb_of.Statement.{statement}
 use Rattle.sizes.proofs.lb_of.Tie as tie
@@ -10,16 +8,10 @@ use Rattle.sizes.proofs.lb_of.Tie as tie
 fewest-lines-requires : tie.Need-fewest-lines-requires
 fewest-lines-requires c κs = search needs
 
-lines-few : (sent : Bool) (w h : ℕ) → w ≤ 64 → h ≤ 64 → cond sent (min w h) h ≤ 64
-lines-few true w h a b = omega arith
-lines-few false w h a b = b
-
 cast-lines : tie.Need-cast-lines
 cast-lines c =
-    let a = c .before .before .args .b in
-    let few : fewestLines (a .width) (a .height) ≤ 64 =
-    lines-few (sentFor (a .width) (a .height)) (a .width) (a .height) (omega arith) (omega arith) in
-    omega arith
+    let b = c .before .before .args .b in
+    omega (arith, fewest-most (b .width) (b .height) (omega arith) (omega arith))
 
 int-to-float-result : tie.Need-int-to-float-result
 int-to-float-result c = search needs

@@ -7,9 +7,9 @@ use lib.Seq.{drop-cons}
 use lib.ListN.{length, drop, getD, length-set, replicate, drop-of-length-le}
 use native.Mathlib.Omega.{arith}
 use native.Mathlib.Numerals.{add-one}
-use mathlib.Core.List.{List, _∷_}
-use mathlib.Core.Path.{_≡_, refl, sym, _∙_}
-use Prim.Native.Nat.{ℕ, _≤_, _<_, _+_, _-_}
+use mathlib.Core.List.{_∷_}
+use mathlib.Core.Path.{_≡_, refl, _∙_}
+use Prim.Native.Nat.{_≤_, _<_, _+_, _-_}
 use Rattle.station.proofs.in_words.Statement.{statement}
 use Rattle.station.proofs.in_words.Tie as tie
 

@@ -1,10 +1,9 @@
 use Rattle.station.proofs.Arrays.{context-small}
-use Rattle.context.specs.Context.{contextOf}
 use Rattle.context.specs.declared.Context.{Context}
 use native.Mathlib.Omega.{arith}
 use Prim.Native.Nat.{_<_}
-use mathlib.Core.List.{List, _∷_}
-use mathlib.Core.Path.{_≡_, refl, ap, _∙_}
+use mathlib.Core.List.{_∷_}
+use mathlib.Core.Path.{ap, _∙_}
 use borrow.Author.Needs.{needs}
 use Rattle.station.proofs.palette_context.Statement.{statement}
 use Rattle.station.proofs.palette_context.Tie as tie

@@ -1,7 +1,6 @@
 use Rattle.listing.proofs.Answers.{count-few}
 use native.Mathlib.Omega.{arith}
-use mathlib.Core.List.{List, [], _∷_}
-use mathlib.Core.Path.{_≡_, refl, ap, _∙_}
+use mathlib.Core.Path.{refl}
 use borrow.Author.Needs.{needs}
 use Rattle.station.proofs.palette_list.Statement.{statement}
 use Rattle.station.proofs.palette_list.Tie as tie

@@ -1,5 +1,4 @@
-use mathlib.Core.Path.{_≡_, ap, _∙_}
-use denote.Ref.{now}
+use mathlib.Core.Path.{ap, _∙_}
 use Rattle.search.specs.declared.Palette.{Palette}
 use Rattle.search.proofs.Answer.{few-colors}
 use Rattle.station.specs.Searched.{fieldsOf}

@@ -1,0 +1,54 @@
+-- The neighbours of a cell of a line, where the map's indices are below n. Assumes nothing.
+use Prim.Native.Nat.{ℕ, _≤_, _<_}
+use mathlib.Core.Bool.{Bool, true, false, cond}
+use mathlib.Core.Path.{_≡_, refl}
+use mathlib.Core.Logic.{_⊎_, inl, inr}
+use mathlib.Core.List.{List}
+use native.Mathlib.Omega.{arith}
+use lib.ListN.{length}
+use Rattle.context.specs.Map.{rowAt, colAt}
+use Rattle.context.specs.Order.{Around, byThree, around, orderOf, rankOf}
+use Rattle.context.specs.declared.Near.{Near}
+use Rattle.near.specs.Near.{nearAt, aroundOf, rankBy, Below, Usable}
+use Rattle.near.proofs.Laws.{usable, same-context, same-order, edge-rank}
+use Rattle.cells.proofs.Cheapest.{All}
+use Rattle.cells.proofs.Order.{order-some, order-under, order-fits}
+use Rattle.map_search.specs.declared.Scan.{Scan}
+
+-- the first cell of a line stands in the top row or in the left column
+at-edge : (transposed : Bool) (l : ℕ) → (cond transposed 0 l ≡ 0) ⊎ (cond transposed l 0 ≡ 0)
+at-edge true l = inl refl
+at-edge false l = inr refl
+
+module _ (m : List ℕ) (s : Scan) (l a : ℕ) where
+  -- as the code and as the definition has them
+  abbrev pub nearCell : Near
+  nearCell = nearAt m (s .w) (rowAt (s .transposed) l a) (colAt (s .transposed) l a)
+
+  abbrev pub aroundCell : Around
+  aroundCell = around byThree m (s .w) (rowAt (s .transposed) l a) (colAt (s .transposed) l a)
+
+  pub context-same : nearCell .ctx ≡ aroundCell .ctx
+  context-same = same-context m (s .w) (rowAt (s .transposed) l a) (colAt (s .transposed) l a)
+
+  pub order-same : (n : ℕ) → 0 < n → orderOf (aroundOf nearCell) n ≡ orderOf aroundCell n
+  order-same n some = same-order m (s .w) (rowAt (s .transposed) l a) (colAt (s .transposed) l a) n some
+
+  module _ (n : ℕ) (below : Below m n) (some : 0 < n) (most : n ≤ 8) where
+    pub near-usable : Usable nearCell n
+    near-usable = usable m (s .w) (rowAt (s .transposed) l a) (colAt (s .transposed) l a) n below some most
+
+    pub context-small : aroundCell .ctx < 5
+    context-small = rw (← context-same) (near-usable .context)
+
+    pub order-in : All (λ i. i < n) (orderOf aroundCell n) × (length (orderOf aroundCell n) ≤ 8) × (0 < length (orderOf aroundCell n))
+    order-in =
+        rw (← order-same n some)
+        (order-under nearCell n near-usable, order-fits nearCell n near-usable most, order-some nearCell n near-usable)
+
+-- at a line's first cell one neighbour alone comes first
+pub first-rank : (m : List ℕ) (s : Scan) (l n : ℕ) → Below m n → 0 < n → n ≤ 8 → (c : ℕ) → c < n
+    → rankOf (aroundCell m s l 0) n c ≡ rankBy c (nearCell m s l 0 .a)
+first-rank m s l n below some most c under =
+    edge-rank m (s .w) (rowAt (s .transposed) l 0) (colAt (s .transposed) l 0) n c (at-edge (s .transposed) l) some most
+    (omega (arith, near-usable m s l 0 n below some most .a)) under
