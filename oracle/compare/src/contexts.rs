@@ -1,4 +1,4 @@
-//! `color_ctx`, with every place of the order.
+//! `block_allowed`, and `color_ctx`, with every place of the order.
 
 use crate::drive::{drive, Run};
 use palette_compare::due::Same;
@@ -7,7 +7,24 @@ use palette_oracle::generate::contexts::asked_corner;
 use palette_oracle::Corner;
 use palette_station::{context, Context};
 
+/// Sides in units of four, to far beyond those that are allowed.
+const SIDES: usize = 300;
+
 pub fn compare(run: Run) -> Result<bool, String> {
+    let blocks = same_blocks();
+    let verdict = if blocks { "same" } else { "differs" };
+    println!("block_allowed, all sides to {SIDES}: {verdict}");
+    let contexts = compare_contexts(run)?;
+    Ok(blocks && contexts)
+}
+
+fn same_blocks() -> bool {
+    let mut pairs = (0..=SIDES).flat_map(|w| (0..=SIDES).map(move |h| (w, h)));
+    let ours = palette_station::block_allowed;
+    pairs.all(|(w, h)| ours(w, h) == palette_oracle::block_allowed(w, h))
+}
+
+fn compare_contexts(run: Run) -> Result<bool, String> {
     drive(run, |index, tally| {
         let (corner, kind, damage) = asked_corner(run.seed, index);
         let number = context_number(&corner);
