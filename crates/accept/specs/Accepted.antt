@@ -53,13 +53,13 @@ mapOk w h p =
 -- the first of 1, 2 and 11 to 15 that applies, or 0; `cached` is the cache's length
 unfoldable pub refusal : ℕ → ℕ → ℕ → ℕ → Palette → ℕ
 refusal w h bd cached p =
-    cond (sidesOk w h)
-    (cond (depthOk bd)
-    (cond (colorsOk bd (p .colors))
-    (cond (orientOk w h (p .transposed)) (cond (cacheOk cached) (cond (countsOk w h p) (cond (mapOk w h p) 0 15) 14) 13) 12)
-    11)
-    2)
-    1
+    cond (not (sidesOk w h)) 1
+    (cond (not (depthOk bd)) 2
+    (cond (not (colorsOk bd (p .colors))) 11
+    (cond (not (orientOk w h (p .transposed))) 12
+    (cond (not (cacheOk cached)) 13
+    (cond (not (countsOk w h p)) 14
+    (cond (not (mapOk w h p)) 15 0))))))
 
 -- none of them applies
 pub record Accepted (w h bd : ℕ) (cache : List ℕ) (p : Palette) : Type 0 where

@@ -22,8 +22,8 @@ pub passed : (t : Bool) (k x : ℕ) → cond t (suc k) x ≡ 0 → (t ≡ false)
 passed true k x e = absurd (suc-not-zero k e)
 passed false k x e = (refl, e)
 
--- the same where the refusal stands behind: the condition holds, and what it guards gives 0
-pub held : (t : Bool) (k x : ℕ) → cond t x (suc k) ≡ 0 → (t ≡ true) × (x ≡ 0)
+-- the same for the refusal of what fails a test: the test holds
+pub held : (t : Bool) (k x : ℕ) → cond (not t) (suc k) x ≡ 0 → (t ≡ true) × (x ≡ 0)
 held true k x e = (refl, e)
 held false k x e = absurd (suc-not-zero k e)
 

@@ -1,7 +1,7 @@
 -- A header without a fault is small; what a number of 0 says of a text, and how reading a palette ends. Assumes nothing.
 use Prim.Native.Nat.{ℕ, _+_, _*_, _≤_}
 use mathlib.Core.Path.{_≡_, refl, sym, _∙_, subst}
-use mathlib.Core.Bool.{Bool, true, false, cond, _&&_, true≢false}
+use mathlib.Core.Bool.{Bool, true, false, cond, not, _&&_, true≢false}
 use mathlib.Core.List.{List}
 use native.Mathlib.Nat.{mul-le-mul}
 use native.Mathlib.Omega.{arith}
@@ -49,7 +49,7 @@ end-small h at l = omega (arith, lines-small h l, rows-small h l, l .colors, l .
 -- ---- the text at a place
 
 module _ (s : List ℕ) (at : ℕ) where
-  body-by : (f : ℕ) (t b : Bool) → eqb f 0 ≡ t → cond t (cond b 0 17) f ≡ 0 → (f ≡ 0) × (b ≡ true)
+  body-by : (f : ℕ) (t b : Bool) → eqb f 0 ≡ t → cond t (cond (not b) 17 0) f ≡ 0 → (f ≡ 0) × (b ≡ true)
   body-by f true b p q = (eqb-true f 0 p, held b 16 0 q .0)
   body-by f false b p q = absurd (true≢false (sym (eq-eqb f 0 q) ∙ p))
 

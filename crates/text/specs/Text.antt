@@ -1,6 +1,6 @@
 -- Document 01, 'Listing program', the input: a palette's text at a place of a text. The header says where each line stands.
 use Prim.Native.Nat.{ℕ, _+_, _*_, _≤_}
-use mathlib.Core.Bool.{Bool, false, cond, _&&_}
+use mathlib.Core.Bool.{Bool, false, cond, not, _&&_}
 use mathlib.Core.List.{List}
 use lib.Dec.{eqb, leb}
 use Rattle.lists.specs.Counted.{within}
@@ -36,10 +36,11 @@ refusedHeader k = record { number = k; width = 0; height = 0; n = 0; bd = 0; tra
 -- the first of 1, 2, 11 (its n), 12 and 13 that applies, or 0
 unfoldable pub headerFault : Header → ℕ
 headerFault h =
-    cond (sidesOk (h .width) (h .height))
-    (cond (depthOk (h .bd))
-    (cond (within 2 8 (h .n)) (cond (orientOk (h .width) (h .height) (h .transposed)) (cond (cacheOk (h .cached)) 0 13) 12) 11) 2)
-    1
+    cond (not (sidesOk (h .width) (h .height))) 1
+    (cond (not (depthOk (h .bd))) 2
+    (cond (not (within 2 8 (h .n))) 11
+    (cond (not (orientOk (h .width) (h .height) (h .transposed))) 12
+    (cond (not (cacheOk (h .cached))) 13 0))))
 
 -- what a header without a fault holds at most
 pub record Small (h : Header) : Type 0 where
@@ -71,9 +72,8 @@ isBody s at h =
 unfoldable pub textNumber : List ℕ → ℕ → ℕ
 textNumber s at =
     let h = headerAt s at in
-    cond (isLine most s at 6 && leb (numberAt s (at + 32)) 1)
-    (cond (eqb (headerFault h) 0) (cond (isBody s at h) 0 17) (headerFault h))
-    17
+    cond (not (isLine most s at 6 && leb (numberAt s (at + 32)) 1)) 17
+    (cond (eqb (headerFault h) 0) (cond (not (isBody s at h)) 17 0) (headerFault h))
 
 -- what is read: the header, the cache and the palette
 unfoldable pub readHeader : List ℕ → ℕ → Header

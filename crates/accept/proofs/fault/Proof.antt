@@ -1,5 +1,5 @@
 -- Each test of `refusal`, in its order. Assumes nothing.
-use mathlib.Core.Bool.{Bool, true, false, cond}
+use mathlib.Core.Bool.{Bool, true, false, cond, not}
 use mathlib.Core.Path.{_≡_, refl, sym, _∙_}
 use native.Mathlib.Nat.{mul-le-mul, lt-of-le-of-lt}
 use native.Mathlib.Omega.{arith}
@@ -48,7 +48,7 @@ orient c = sym (c .before .orient-ok .ensures) ∙ not-false _ (c .if4 .left)
 rest : (c : tie.Else5) → let s = start (c .before .before .before .before .before .before .before) in
     let w = s .args .width in
     let h = s .args .height in
-    refusal w h (s .args .bd) (s .args .cached) (given s) ≡ cond (countsOk w h (given s)) (cond (mapOk w h (given s)) 0 15) 14
+    refusal w h (s .args .bd) (s .args .cached) (given s) ≡ cond (not (countsOk w h (given s))) 14 (cond (not (mapOk w h (given s))) 15 0)
 unfolding refusal cacheOk
 rest c =
     let third = c .before .before .before in
