@@ -141,6 +141,26 @@ pub(crate) fn search(
     }
 }
 
+/// Calls a function whose first ten arguments are a palette. A macro, since the ten cannot be handed
+/// over as one value.
+macro_rules! with_palette {
+    ($function:ident, $palette:expr, $($more:expr),+) => {
+        $function(
+            $palette.width,
+            $palette.height,
+            $palette.bd,
+            $palette.colors,
+            $palette.n,
+            $palette.transposed,
+            $palette.map.as_ptr(),
+            $palette.map.len(),
+            $palette.flags.as_ptr(),
+            $palette.flags.len(),
+            $($more),+
+        )
+    };
+}
+
 /// The number; `listed` becomes the count of words and the raw width.
 pub(crate) fn list(
     palette: Lent<'_>,
@@ -151,22 +171,14 @@ pub(crate) fn list(
     // SAFETY: each pointer and length is of one slice; the two mutable borrows do not overlap,
     // and the function writes within their lengths only.
     unsafe {
-        palette_list(
-            palette.width,
-            palette.height,
-            palette.bd,
-            palette.colors,
-            palette.n,
-            palette.transposed,
-            palette.map.as_ptr(),
-            palette.map.len(),
-            palette.flags.as_ptr(),
-            palette.flags.len(),
+        with_palette!(
+            palette_list,
+            palette,
             cache.as_ptr(),
             cache.len(),
             words.as_mut_ptr(),
             words.len(),
-            listed,
+            listed
         )
     }
 }
@@ -175,22 +187,7 @@ pub(crate) fn list(
 pub(crate) fn pred(palette: Lent<'_>, values: &mut [f32]) -> u32 {
     // SAFETY: each pointer and length is of one slice; `values` is the only mutable borrow, and
     // the function writes within its length only.
-    unsafe {
-        palette_pred(
-            palette.width,
-            palette.height,
-            palette.bd,
-            palette.colors,
-            palette.n,
-            palette.transposed,
-            palette.map.as_ptr(),
-            palette.map.len(),
-            palette.flags.as_ptr(),
-            palette.flags.len(),
-            values.as_mut_ptr(),
-            values.len(),
-        )
-    }
+    unsafe { with_palette!(palette_pred, palette, values.as_mut_ptr(), values.len()) }
 }
 
 #[cfg(test)]
