@@ -12,7 +12,8 @@ use Rattle.context.specs.Order.{Around, byThree, around, rankOf}
 use Rattle.context.specs.Ranks.{rankFrom, Coded}
 use Rattle.context.proofs.Around.{three-ok, three-ctx}
 use Rattle.context.proofs.Order.{FirstsOk, rank-below}
-use Rattle.context.proofs.Ranks.{rank-from, around-top, around-side, around-three, row-above}
+use Rattle.context.proofs.Ranks.{rank-from}
+use Rattle.context.proofs.Places.{around-top, around-side, around-three, row-above}
 use Rattle.literals.specs.Words.{word}
 use Rattle.emit.specs.Map.{rankedWord, cellWord}
 

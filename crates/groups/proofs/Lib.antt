@@ -5,5 +5,7 @@ pub mod Rows
 pub mod Means
 pub mod Exact
 pub mod Colors
+pub mod Kept
+pub mod Totals
 pub mod Block
 pub mod Examples

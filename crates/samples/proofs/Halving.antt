@@ -2,9 +2,9 @@
 -- are left. The last of them is the half that decides how the others are rounded.
 use mathlib.Core.Path.{_≡_, refl, sym, ap, _∙_, subst}
 use mathlib.Core.Logic.{_⊎_, inl, inr}
-use mathlib.Core.Bool.{Bool, true, false, false≢true}
+use mathlib.Core.Bool.{true, false, false≢true}
 use Prim.Native.Nat.{ℕ, suc, _+_, _*_, _/_, _%_, _^_, _≤_, _<_}
-use native.Mathlib.Nat.{mul-assoc, mul-comm, mul-pos, mul-one, one-mul, mul-le-mul, zero-lt-suc, le-trans, le-of-eq, le-of-lt}
+use native.Mathlib.Nat.{mul-pos, mul-one, one-mul, mul-le-mul, zero-lt-suc, le-trans, le-of-eq, le-of-lt}
 use native.Mathlib.Nat.{lt-of-le-of-lt, lt-of-lt-of-le, lt-of-mul-lt-mul-right, lt-of-not-le, not-le-of-lt, div-lt-self}
 use native.Mathlib.Nat.{div-lt-iff-lt-mul, le-div-iff-mul-le, div-div-eq-div-mul, pow-suc, mul-lt-mul-of-pos-right}
 use native.Mathlib.Omega.{arith}
@@ -20,7 +20,6 @@ use lib.Ieee.Positive.{num, den, den-pos}
 use borrow.Author.Tests.{ltb-true, leb-true, leb-false, eqb-true, eqb-false}
 use Rattle.ieee.specs.Numbers.{nat}
 use Rattle.ieee.specs.Bounds.{Within}
-use Rattle.ieee.proofs.Fractions.{same-through}
 use Rattle.ieee.proofs.Exact.{add-at, mul-at}
 use Rattle.ieee.proofs.Numbers.{nat-val}
 use Rattle.ieee.proofs.Tests.{le-at, eq-at}
@@ -28,32 +27,7 @@ use Rattle.ieee.proofs.Scaling.{exact-up, exact-half}
 use Rattle.ieee.proofs.Truncation.{same-whole, trunc-is}
 use Rattle.ieee.proofs.Bounds.{value-within}
 use Rattle.ieee.proofs.HalfEven.{round-kept, closest-even, closest-tie, closest-up}
-
--- ---- numbers. 2 ^ 150 is too long for `omega`, so these are laws over variables
-regroup : (p q c : ℕ) → p * q * c ≡ p * (c * q)
-regroup p q c = omega arith
-
-double : (c k : ℕ) → c * 2 ^ k * 2 ≡ c * 2 ^ suc k
-double c k = rw (pow-suc 2 k) (omega arith)
-
-twice : (M d : ℕ) → (M * d + M * d) * d ≡ M * 2 * (d * d)
-twice M d = omega arith
-
-twice-149 : (a : ℕ) → a * 2 ^ 150 ≡ 2 * (a * 2 ^ 149)
-twice-149 a = sym (mul-assoc a (2 ^ 149) 2) ∙ mul-comm (a * 2 ^ 149) 2
-
-half-lt : (n u : ℕ) → 2 * n < 2 ^ 25 * u → n < 2 ^ 24 * u
-half-lt n u h = omega arith
-
-half-le : (n u : ℕ) → 2 ^ 24 * u ≤ 2 * n → 2 ^ 23 * u ≤ n
-half-le n u h = omega arith
-
-at-least : (p q : ℕ) → 2 ^ 25 * p ≤ q → (p ≤ q) × (2 ^ 24 * (p * 2) ≤ q)
-at-least p q h = (omega arith, omega arith)
-
--- a float's value, by another fraction that equals it
-value-same : (x : Float) (s : Bool) (a c b d : ℕ) → 0 < c → HasValue x s a c → a * d ≡ b * c → HasValue x s b d
-value-same (fin t m e) s a c b d C v h = (v .0, same-through (m * up e) (down e) a c b d C (v .1) h)
+use Rattle.samples.proofs.Powers.{regroup, double, twice, twice-149, half-lt, half-le, at-least, value-same}
 
 -- ---- 0 < x < 2 ^ 40
 pub record Asked (x : Float) : Type 0 where

@@ -3,7 +3,7 @@ use mathlib.Core.Path.{ap, _∙_}
 use native.Mathlib.Omega.{arith}
 use borrow.Author.Needs.{needs}
 use Rattle.context.specs.Order.{byThree}
-use Rattle.context.proofs.Ranks.{rank-few}
+use Rattle.context.proofs.Equal.{rank-few}
 use Rattle.context.proofs.code_of.Statement.{statement}
 use Rattle.context.proofs.code_of.Tie as tie
 

@@ -1,4 +1,4 @@
-use Rattle.context.proofs.Ranks.{ctx-by-equal}
+use Rattle.context.proofs.Equal.{ctx-by-equal}
 use native.Mathlib.Omega.{arith}
 use borrow.Author.Needs.{needs}
 use Rattle.context.proofs.ctx_of.Statement.{statement}

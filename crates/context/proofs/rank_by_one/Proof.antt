@@ -1,6 +1,6 @@
 use mathlib.Core.Path.{ap, _∙_}
 use Rattle.context.specs.Ranks.{rankFrom}
-use Rattle.context.proofs.Ranks.{three-same}
+use Rattle.context.proofs.Equal.{three-same}
 use borrow.Author.Needs.{needs}
 use Rattle.context.proofs.rank_by_one.Statement.{statement}
 use Rattle.context.proofs.rank_by_one.Tie as tie

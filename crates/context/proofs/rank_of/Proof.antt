@@ -1,4 +1,4 @@
-use Rattle.context.proofs.Ranks.{rank-by-equal}
+use Rattle.context.proofs.Equal.{rank-by-equal}
 use borrow.Author.Needs.{needs}
 use Rattle.context.proofs.rank_of.Statement.{statement}
 use Rattle.context.proofs.rank_of.Tie as tie

@@ -4,7 +4,7 @@ use Prim.Native.Nat.{_+_, _*_, _<_}
 use mathlib.Core.Path.{_≡_, refl, _∙_}
 use lib.ListN.{length}
 use Rattle.context.specs.Map.{cell}
-use Rattle.context.proofs.Ranks.{row-above}
+use Rattle.context.proofs.Places.{row-above}
 use Rattle.emit.specs.Map.{cellWord}
 use Rattle.emit.proofs.Cells.{top-word, side-word, code-low, coded-word}
 use borrow.Author.Needs.{needs}

@@ -3,7 +3,7 @@ use denote.Ref.{now}
 use native.Mathlib.Omega.{arith}
 use mathlib.Core.Path.{sym, ap, _∙_}
 use Rattle.context.specs.Parts.{held}
-use Rattle.context.proofs.Ranks.{around-top, around-side, around-three, row-above}
+use Rattle.context.proofs.Places.{around-top, around-side, around-three, row-above}
 use Rattle.near.specs.Near.{nearAt}
 use Rattle.near.proofs.Laws.{away}
 use borrow.Author.Needs.{needs}
