@@ -3,7 +3,7 @@
 ghost use mathlib.Core.Path.{_≡_};
 ghost use mathlib.Core.Bool.{not, cond};
 ghost use mathlib.Core.List.{_∷_, []};
-ghost use Prim.Native.Nat.{ℕ, _+_, _*_, _≤_, _<_, min};
+ghost use Prim.Native.Nat.{ℕ, _+_, _*_, _%_, _≤_, _<_, min};
 ghost use lib.ListN.{length, getD};
 ghost use lib.Dec.{eqb};
 ghost use Rattle.lists.specs.Counted.{elem, bit};
@@ -305,6 +305,13 @@ fn code_of(left: Index, top: Index, diag: Index, index: Index) -> u8
     let ctx = ctx_of(left, top, diag);
     let rank = rank_of(left, top, diag, index);
     ctx * 8 + rank.0
+}
+
+// The rank that a code holds.
+pub fn rank_in(code: u8) -> Rank
+    ensures { λ r. ⌜ r .0 ≡ code % 8 ⌝ }
+{
+    Rank(code % 8)
 }
 
 // The codes of all cells with three neighbours. The loop goes through all rows, so that many cells are told at once; what it

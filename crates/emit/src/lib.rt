@@ -128,8 +128,9 @@ fn coded_word(codes: &[u8], n: usize, place: usize) -> u32
     requires { ⌜ (2 ≤ n) × (n ≤ 8) × (place < length (now codes)) × (getD (now codes) place 0 < 40) ⌝ }
     ensures { λ r. ⌜ r ≡ word 5 ((n - 2) * 5 + getD (now (codes .entry)) place 0 / 8) (getD (now (codes .entry)) place 0 % 8) ⌝ }
 {
-    let code = codes[place] as u32;
-    literals::call(5, ((n - 2) * 5) as u32 + code / 8, code % 8)
+    let code = codes[place];
+    let rank = context::rank_in(code);
+    literals::call(5, ((n - 2) * 5) as u32 + (code / 8) as u32, rank.0 as u32)
 }
 
 // The word of the cell at row y, column x.
