@@ -61,13 +61,21 @@ unfolding orientOk
 small w h true e r = (ltb-true w 64 (and-l (ltb w 64) (ltb h 64) e), ltb-true h 64 (and-r (ltb w 64) (ltb h 64) e))
 small w h false e r = absurd (false≢true r)
 
+pub counts-at : (w h : ℕ) (p : Palette) → countsOk w h p ≡ true
+    → (length (p .map) ≡ w * h) × (length (p .flags) ≡ linesOf (p .transposed) w h)
+unfolding countsOk
+counts-at w h p e =
+    let cells = eqb (length (p .map)) (w * h) in
+    (eqb-true _ _ (and-l cells _ e), eqb-true _ _ (and-r cells _ e))
+
 pub facts : (w h bd : ℕ) (cache : List ℕ) (p : Palette) → Accepted w h bd cache p → Facts w h bd p
-unfolding depthOk colorsOk countsOk mapOk
+unfolding depthOk colorsOk mapOk
 facts w h bd cache p a =
     let s = sides-at w h (a .sides) in
     let d = within-at 8 12 bd (a .depth) in
     let n = within-at 2 8 (length (p .colors)) (and-l (within 2 8 (length (p .colors))) _ (a .colors)) in
-    let m = eqb-true _ _ (and-l (eqb (length (p .map)) (w * h)) _ (a .counts)) in
+    let c = counts-at w h p (a .counts) in
+    let m = c .0 in
     record {
       wide = s .0 .0;
       wideMost = s .0 .1;
@@ -80,7 +88,7 @@ facts w h bd cache p a =
       levels = and-r (within 2 8 (length (p .colors))) _ (a .colors);
       orient = small w h (p .transposed) (a .orient);
       mapLength = m;
-      flagLength = eqb-true _ _ (and-r (eqb (length (p .map)) (w * h)) _ (a .counts));
+      flagLength = c .1;
       index = λ i g. ltb-true _ _ (allIn-at _ (p .map) (and-l (allIn _ (p .map)) _ (a .map)) i (omega (arith, m)));
       line = allBelow-at _ (linesOf (p .transposed) w h) (and-r (allIn _ (p .map)) _ (a .map));
     }

@@ -80,6 +80,17 @@ pub fn orient_ok(width: usize, height: usize, transposed: bool) -> bool
     !transposed | counts::orient_sent(width, height)
 }
 
+// Whether there is one index for each cell, and one flag for each line.
+fn counts_ok(width: usize, height: usize, transposed: bool, cells: usize, lines: usize) -> bool
+    requires { ⌜ (width ≤ 64) × (height ≤ 64) ⌝ }
+    ensures { λ r. ⌜ r ≡ (eqb cells (width * height) && eqb lines (linesOf transposed width height)) ⌝ }
+{
+    if cells != width * height {
+        return false;
+    }
+    lines == context::lines_of(transposed, width, height)
+}
+
 // Whether every index is below n. It looks at all of them: without a way out the loop is quicker.
 fn indices_ok(map: &[u8], n: u8) -> bool
     ensures { λ r. ⌜ r ≡ allIn (λ i. ltb i n) (now (map .entry)) ⌝ }
@@ -194,10 +205,7 @@ pub fn fault(
     if 64 < cached {
         return 13;
     }
-    if map.len() != width * height {
-        return 14;
-    }
-    if flags.len() != context::lines_of(transposed, width, height) {
+    if !counts_ok(width, height, transposed, map.len(), flags.len()) {
         return 14;
     }
     if !indices_ok(map, n as u8) {

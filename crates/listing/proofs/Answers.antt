@@ -1,13 +1,14 @@
 -- The three answers of `list`: a fault, too small a room, the list. Assumes nothing.
-use mathlib.Core.Path.{_≡_, refl, sym, _∙_}
+use mathlib.Core.Path.{_≡_, refl, sym, ap, _∙_}
 use mathlib.Core.Bool.{Bool, true, false, cond}
 use mathlib.Core.List.{List}
 use Prim.Native.Nat.{ℕ, _≤_, _<_}
 use native.Mathlib.Omega.{arith}
 use lib.Dec.{eqb, leb}
 use lib.ListN.{length}
-use borrow.Author.Tests.{eqb-true, eqb-false, ne-eqb, le-leb, lt-leb}
-use Rattle.lists.specs.Written.{front}
+use borrow.Author.Tests.{eqb-true, eqb-false, ne-eqb, leb-true, leb-false, le-leb, lt-leb}
+use Rattle.lists.specs.Written.{front, written}
+use Rattle.lists.proofs.Written.{written-front}
 use Rattle.literals.specs.Words.{rawWidth}
 use Rattle.accept.specs.Palette.{Palette}
 use Rattle.accept.specs.Accepted.{refusal}
@@ -30,13 +31,13 @@ module _ (w h bd : ℕ) (cache : List ℕ) (p : Palette) (before : List ℕ) whe
         words = simp (ne-eqb k 0 f);
       }
 
-  pub short : refusal w h bd (length cache) p ≡ 0 → length before < length list → (after : List ℕ) → after ≡ before
+  short : refusal w h bd (length cache) p ≡ 0 → length before < length list → (after : List ℕ) → after ≡ before
       → Lists w h bd cache p before after (refusedBy 16)
   unfolding listNumber
   short e f after a =
       record { number = rw e (simp (lt-leb (length list) (length before) f)); count = refl; width = refl; words = a }
 
-  pub whole : refusal w h bd (length cache) p ≡ 0 → length list ≤ length before → (after : List ℕ) (r : Listed)
+  whole : refusal w h bd (length cache) p ≡ 0 → length list ≤ length before → (after : List ℕ) (r : Listed)
       → after ≡ front list before → r .number ≡ 0 → r .count ≡ length list → r .«raw_width» ≡ rawWidth list
       → Lists w h bd cache p before after r
   unfolding listNumber
@@ -47,6 +48,22 @@ module _ (w h bd : ℕ) (cache : List ℕ) (p : Palette) (before : List ℕ) whe
         width = rw z raw;
         words = rw z a;
       }
+
+  -- a list that was made aside, as `deliver` answers for it
+  pub delivered : refusal w h bd (length cache) p ≡ 0 → (made : Listed)
+      → made .number ≡ 0 → made .count ≡ length list → made .«raw_width» ≡ rawWidth list
+      → (words : List ℕ) → words ≡ list → (after : List ℕ) (r : Listed)
+      → r ≡ cond (leb (made .count) (length before)) made (refusedBy 16)
+      → after ≡ cond (leb (made .count) (length before)) (written before 0 words) before
+      → Lists w h bd cache p before after r
+  delivered e made z c raw words is after = go (leb (made .count) (length before)) refl
+    where
+      go : (b : Bool) → leb (made .count) (length before) ≡ b → (r : Listed) → r ≡ cond b made (refusedBy 16)
+          → after ≡ cond b (written before 0 words) before → Lists w h bd cache p before after r
+      go true fits r t a =
+          let room : length list ≤ length before = omega (arith, leb-true (made .count) (length before) fits, c) in
+          rw t (whole e room after made (a ∙ ap (written before 0) is ∙ written-front before list room) z c raw)
+      go false fits r t a = rw t (short e (omega (arith, leb-false (made .count) (length before) fits, c)) after a)
 
   -- a count is never above the longest list
   pub count-few : (after : List ℕ) (r : Listed) → Lists w h bd cache p before after r → r .count ≤ 4234

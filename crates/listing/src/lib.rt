@@ -2,8 +2,10 @@
 use context::Index;
 use context::Level;
 ghost use mathlib.Core.Path.{_≡_};
+ghost use mathlib.Core.Bool.{cond};
 ghost use mathlib.Core.List.{_++_};
 ghost use Prim.Native.Nat.{ℕ, _+_, _*_, _≤_, _<_};
+ghost use lib.Dec.{leb};
 ghost use lib.IntN.{pos};
 ghost use lib.Ieee.{binary32, ofInt};
 ghost use lib.ListN.{length, take, drop, getD};
@@ -116,7 +118,23 @@ fn copy_words(from: &[u32], count: usize, to: &mut [u32])
     }
 }
 
-// As `list`. The list is made in `aside` first, so that no word is written where the room is too small.
+// The answer for a list that was made aside: its words go to the front where there is room for them, else nothing is written.
+fn deliver(listed: Listed, aside: &[u32], words: &mut [u32]) -> Listed
+    requires { ⌜ listed .count ≤ length (now aside) ⌝ }
+    ensures { λ r. ⌜ r ≡ cond (leb (listed .count) (length (now (words .entry)))) listed (refusedBy 16) ⌝ }
+    ensures { λ r. ⌜ now (words .exit) ≡ cond (leb (listed .count) (length (now (words .entry)))) (written (now (words .entry)) 0 (take (listed .count) (now (aside .entry)))) (now (words .entry)) ⌝ }
+{
+    let room = words.len();
+    let count = listed.count;
+    let kept = if room < count { 0 } else { count };
+    copy_words(aside, kept, words);
+    if room < count {
+        return refused(16);
+    }
+    listed
+}
+
+// As `list`, with room for any list aside.
 fn list_by(
     width: usize,
     height: usize,
@@ -133,17 +151,8 @@ fn list_by(
     requires { ⌜ 4234 ≤ length (now aside) ⌝ }
     ensures { λ r. ⌜ Lists width height bd (now (cache .entry)) (paletteOf colors n transposed (now (map .entry)) (now (flags .entry))) (now (words .entry)) (now (words .exit)) r ⌝ }
 {
-    let number = accept::fault(
-        width,
-        height,
-        bd,
-        colors,
-        n,
-        transposed,
-        map,
-        flags,
-        cache.len(),
-    );
+    let cached = cache.len();
+    let number = accept::fault(width, height, bd, colors, n, transposed, map, flags, cached);
     if number != 0 {
         return refused(number);
     }
@@ -159,14 +168,7 @@ fn list_by(
         cache,
         aside,
     );
-    let count = listed.count;
-    let room = words.len();
-    let kept = if room < count { 0 } else { count };
-    copy_words(aside, kept, words);
-    if room < count {
-        return refused(16);
-    }
-    listed
+    deliver(listed, aside, words)
 }
 
 // Lists a palette's calls from the front, or refuses it and writes nothing.

@@ -12,7 +12,7 @@ use Rattle.accept.specs.Accepted.{sidesOk, depthOk}
 use Rattle.samples.specs.Samples.{lambdaOk, costsOk, samplesOk, levelOf}
 use Rattle.groups.specs.declared.Histogram.{Histogram}
 use Rattle.groups.specs.Histogram.{histogramOf}
-use Rattle.map_search.specs.Lines.{scanOf, mapOf}
+use Rattle.map_search.specs.Lines.{Ended, scanOf, mapOf}
 use Rattle.map_search.specs.declared.MapResult.{MapResult}
 use Rattle.map_search.specs.declared.MapResult.the-variants.{Found, Beaten}
 use Rattle.sizes.specs.declared.Block.{Block}
@@ -50,14 +50,18 @@ abbrev pub histogramIn : List Float → Histogram
 histogramIn samples = histogramOf (map levelOf samples)
 
 module _ (samples costs : List Float) (b : Block) where
-  -- one orientation of a size; the bound is the best total so far. The map starts from zeros; any start of these lengths
-  -- gives the same, as every cell and flag is written before it is read
-  unfoldable pub tried : Size → Bool → Standing → Standing
-  tried z t s =
+  -- the map of a size in one orientation, up to a bound; cells and flags start as zeros
+  abbrev pub mapIn : Size → Bool → Float → Ended
+  mapIn z t bound =
       let scan = scanOf (b .width) (b .height) t in
       let colours = map (nat binary32) (z .colors) in
       let zeros : List ℕ = replicate (b .width * b .height) 0 in
-      let e = mapOf samples costs colours (z .n) (b .lambda) scan (z .head) (s .best .total) zeros (replicate (scan .lines) 0) in
+      mapOf samples costs colours (z .n) (b .lambda) scan (z .head) bound zeros (replicate (scan .lines) 0)
+
+  -- one orientation of a size; the bound is the best total so far
+  unfoldable pub tried : Size → Bool → Standing → Standing
+  tried z t s =
+      let e = mapIn z t (s .best .total) in
       judged b z t s (e .map) (e .flags) (e .result)
 
   -- plain before transposed, the latter only if an orientation bit is sent

@@ -10,8 +10,9 @@ ghost use lib.Ieee.{binary32};
 ghost use Rattle.lists.specs.Written.{written};
 ghost use Rattle.ieee.specs.Numbers.{nat};
 ghost use Rattle.context.specs.Map.{linesOf};
+ghost use Rattle.map_search.specs.Sound.{Built};
 ghost use Rattle.sizes.specs.Known.{Known};
-ghost use Rattle.search.specs.Search.{Standing, judged, tried, triedBoth, searched, histogramIn, foundIn, refusedBy, Searches};
+ghost use Rattle.search.specs.Search.{Standing, judged, mapIn, tried, triedBoth, searched, histogramIn, foundIn, refusedBy, Searches};
 ghost use Rattle.search.specs.Search.{roomsOk, largeOk, faultOf, levelsFault};
 ghost use Rattle.search.specs.Steps.{Ready, Stands, Written};
 
@@ -176,6 +177,39 @@ fn judge(
     best
 }
 
+// The map of a size in one orientation, or that its total reaches the bound; cells and lines are zeros, as many as it needs.
+fn map_in(
+    samples: &[f32],
+    costs: &[f32],
+    b: Block,
+    z: Size,
+    transposed: bool,
+    bound: f32,
+    cells: &mut [u8],
+    lines: &mut [u8],
+) -> MapResult
+    requires { ⌜ Ready (now samples) (now costs) b (b .width * b .height) 64 × (2 ≤ z .n) × (z .n ≤ 8) ⌝ }
+    requires { ⌜ (now cells ≡ replicate (b .width * b .height) 0)
+        × (now lines ≡ replicate (linesOf transposed (b .width) (b .height)) 0) ⌝ }
+    ensures { λ r. ⌜ Built (mapIn (now (samples .entry)) (now (costs .entry)) b z transposed bound) r (now (cells .exit)) (now (lines .exit)) ⌝ }
+{
+    let s = map_search::scan_of(b.width, b.height, transposed);
+    let colors = z.colors;
+    let colours = values(colors);
+    map_search::build_map(
+        samples,
+        costs,
+        &colours,
+        s,
+        z.n,
+        b.lambda,
+        z.head,
+        bound,
+        cells,
+        lines,
+    )
+}
+
 // As `try_scan`, with the map made in cells and lines, which are zeros and just as many as it needs.
 fn try_in(
     samples: &[f32],
@@ -195,21 +229,7 @@ fn try_in(
     ensures { λ r. ⌜ ((s : Standing) → Stands s best (now (map .entry)) (now (flags .entry))
         → Stands (tried (now (samples .entry)) (now (costs .entry)) b z transposed s) r (now (map .exit)) (now (flags .exit))) ⌝ }
 {
-    let s = map_search::scan_of(b.width, b.height, transposed);
-    let colors = z.colors;
-    let colours = values(colors);
-    let found = map_search::build_map(
-        samples,
-        costs,
-        &colours,
-        s,
-        z.n,
-        b.lambda,
-        z.head,
-        best.total,
-        cells,
-        lines,
-    );
+    let found = map_in(samples, costs, b, z, transposed, best.total, cells, lines);
     match found {
         MapResult::Beaten => best,
         MapResult::Found(error, bits) => judge(

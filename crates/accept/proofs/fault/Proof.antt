@@ -1,19 +1,18 @@
 -- Each test of `refusal`, in its order. Assumes nothing.
 use mathlib.Core.Bool.{Bool, true, false, cond, not}
 use mathlib.Core.Path.{_≡_, refl, sym, _∙_}
-use native.Mathlib.Nat.{mul-le-mul, lt-of-le-of-lt}
 use native.Mathlib.Omega.{arith}
 use denote.Ref.{now}
 use mir.Syntax.{w16}
 use borrow.Author.Needs.{needs}
-use borrow.Author.Tests.{lt-leb, le-leb, eq-eqb, ne-eqb, not-true, not-false}
+use borrow.Author.Tests.{lt-leb, le-leb, not-true, not-false}
 use borrow.Kind.Array.{good-length, eInt}
-use lib.Dec.{ltb, lit<}
+use lib.Dec.{ltb}
 use lib.ListN.{length}
 use Rattle.lists.specs.Counted.{allIn}
 use Rattle.accept.specs.Accepted.{sidesOk, depthOk, colorsOk, orientOk, cacheOk, countsOk, mapOk, refusal}
 use Rattle.accept.specs.Palette.{Palette, paletteOf}
-use Rattle.accept.proofs.Accepted.{sides-at}
+use Rattle.accept.proofs.Accepted.{sides-at, counts-at}
 use Rattle.lists.proofs.Counted.{within-at}
 use Rattle.accept.proofs.Levels.{few-given, length-given}
 use Rattle.accept.proofs.fault.Statement.{statement}
@@ -55,17 +54,17 @@ rest c =
     let second = third .before .before in
     rw (sides (second .before .before), depth second, colors third, orient (c .before), le-leb _ _ (c .if5 .left)) refl
 
-counts : (c : tie.Else7) → let s = start (c .before .before .before .before .before .before .before .before .before .before) in
+counts : (c : tie.Else6) → let s = start (c .before .before .before .before .before .before .before .before .before) in
     countsOk (s .args .width) (s .args .height) (given s) ≡ true
 unfolding countsOk
-counts c = rw (eq-eqb _ _ (c .before .before .if6 .left), eq-eqb _ _ (c .if7 .left ∙ c .before .lines-of .ensures)) refl
+counts c = sym (c .before .counts-ok .ensures) ∙ not-false _ (c .if6 .left)
 
 -- what the test of the indices says
 indices : (c : tie.After-indices-ok) (b : Bool) → c .indices-ok .result ≡ b
-    → let s = start (c .before .before .before .before .before .before .before .before .before .before .before) in
+    → let s = start (c .before .before .before .before .before .before .before .before .before .before) in
     allIn (λ i. ltb i (length (given s .colors))) (now (s .args .map)) ≡ b
 indices c b e =
-    let third = c .before .before .before .before .before .before .before in
+    let third = c .before .before .before .before .before .before in
     let s = start (third .before .before .before .before) in
     rw (length-given (s .args .colors) (eight s) (s .args .bd) (s .args .n) (colors third)) (sym (c .indices-ok .ensures) ∙ e)
 
@@ -110,57 +109,48 @@ returns-5 c =
     let second = third .before .before in
     rw (sides (second .before .before), depth second, colors third, orient (c .before), lt-leb _ _ (c .if5 .taken)) refl
 
-mul-if6 : tie.Need-mul-if6
-mul-if6 c =
+counts-ok-requires : tie.Need-counts-ok-requires
+counts-ok-requires c κs =
     let s = sides-at _ _ (sides (c .before .before .before .before .before .before .before)) in
-    record { fits = lt-of-le-of-lt (mul-le-mul (s .0 .1) (s .1 .1)) (lit< tt) }
+    (s .0 .1, s .1 .1)
 
 returns-6 : tie.Need-returns-6
 unfolding countsOk
-returns-6 c = sym (rest (c .before) ∙ rw (ne-eqb _ _ (c .if6 .taken)) refl)
-
-lines-of-requires : tie.Need-lines-of-requires
-lines-of-requires c κs = search needs
-
-returns-7 : tie.Need-returns-7
-unfolding countsOk
-returns-7 c =
-    sym (rest (c .before .before .before)
-    ∙ rw (eq-eqb _ _ (c .before .before .if6 .left), ne-eqb _ _ (λ e. c .if7 .taken (e ∙ sym (c .before .lines-of .ensures)))) refl)
+returns-6 c = sym (rest (c .before .before) ∙ rw (sym (c .before .counts-ok .ensures) ∙ not-true _ (c .if6 .taken)) refl)
 
 cast-indices-ok : tie.Need-cast-indices-ok
 cast-indices-ok c =
-    let tested = c .before .before .before .before .before .before in
+    let tested = c .before .before .before .before .before in
     let s = start (tested .before .before .before .before) in
     omega (arith, few-given (s .args .colors) (eight s) (s .args .bd) (s .args .n) (colors tested))
 
 indices-ok-requires : tie.Need-indices-ok-requires
 indices-ok-requires c κs = search needs
 
+returns-7 : tie.Need-returns-7
+unfolding mapOk
+returns-7 c =
+    sym (rest (c .before .before .before .before)
+    ∙ rw (counts (c .before .before), indices (c .before) false (not-true _ (c .if7 .taken))) refl)
+
+lines-ok-requires : tie.Need-lines-ok-requires
+lines-ok-requires c κs = counts-at _ _ _ (counts (c .before .before))
+
 returns-8 : tie.Need-returns-8
 unfolding mapOk
 returns-8 c =
-    sym (rest (c .before .before .before .before .before)
-    ∙ rw (counts (c .before .before), indices (c .before) false (not-true _ (c .if8 .taken))) refl)
-
-lines-ok-requires : tie.Need-lines-ok-requires
-lines-ok-requires c κs = search needs
+    let tested = c .before .before in
+    let below = indices (tested .before) true (not-false _ (tested .if7 .left)) in
+    sym (rest (tested .before .before .before .before)
+    ∙ rw (counts (tested .before .before), below, sym (c .before .lines-ok .ensures) ∙ not-true _ (c .if8 .taken)) refl)
 
 returns-9 : tie.Need-returns-9
 unfolding mapOk
 returns-9 c =
-    let eighth = c .before .before in
-    let below = indices (eighth .before) true (not-false _ (eighth .if8 .left)) in
-    sym (rest (eighth .before .before .before .before .before)
-    ∙ rw (counts (eighth .before .before), below, sym (c .before .lines-ok .ensures) ∙ not-true _ (c .if9 .taken)) refl)
-
-returns-10 : tie.Need-returns-10
-unfolding mapOk
-returns-10 c =
-    let eighth = c .before .before in
-    let below = indices (eighth .before) true (not-false _ (eighth .if8 .left)) in
-    sym (rest (eighth .before .before .before .before .before)
-    ∙ rw (counts (eighth .before .before), below, sym (c .before .lines-ok .ensures) ∙ not-false _ (c .if9 .left)) refl)
+    let tested = c .before .before in
+    let below = indices (tested .before) true (not-false _ (tested .if7 .left)) in
+    sym (rest (tested .before .before .before .before)
+    ∙ rw (counts (tested .before .before), below, sym (c .before .lines-ok .ensures) ∙ not-false _ (c .if8 .left)) refl)
 
 pub fault-spec : {M : Type 1} → statement M
 fault-spec =
@@ -175,13 +165,11 @@ fault-spec =
     orient-ok-requires
     returns-4
     returns-5
-    mul-if6
+    counts-ok-requires
     returns-6
-    lines-of-requires
-    returns-7
     cast-indices-ok
     indices-ok-requires
-    returns-8
+    returns-7
     lines-ok-requires
-    returns-9
-    returns-10)
+    returns-8
+    returns-9)
