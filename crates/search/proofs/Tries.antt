@@ -26,7 +26,7 @@ use Rattle.map_search.proofs.Scans.{scan-sound}
 use Rattle.sizes.specs.declared.Block.{Block}
 use Rattle.sizes.specs.declared.Size.{Size}
 use Rattle.search.specs.declared.Best.{Best}
-use Rattle.search.specs.Search.{Standing, judged, tried}
+use Rattle.search.specs.Search.{Standing, judged, mapIn, tried}
 use Rattle.search.specs.Steps.{Ready, Stands}
 use Rattle.search.proofs.Zeros.{zeros-below}
 use Rattle.search.proofs.Lengths.{lines-are, lines-most}
@@ -65,6 +65,24 @@ pub still-ready : {samples costs : List Float} {b : Block} {room lineRoom : ℕ}
 still-ready room' lineRoom' r e f = rw (e, f) r
 
 module _ {samples costs : List Float} {b : Block} {room lineRoom : ℕ} (ready : Ready samples costs b room lineRoom) where
+  -- and so are buffers for just one map
+  pub ready-for-one : Ready samples costs b (b .width * b .height) 64
+  ready-for-one = record {
+    wide = ready .wide;
+    wideMost = ready .wideMost;
+    high = ready .high;
+    highMost = ready .highMost;
+    deep = ready .deep;
+    deepMost = ready .deepMost;
+    count = ready .count;
+    weight = ready .weight;
+    priced = ready .priced;
+    sampled = ready .sampled;
+    room = omega arith;
+    columns = ready .wideMost;
+    rows = ready .highMost;
+  }
+
   cost-plus : (i : ℕ) → NotNeg (getD costs i nan)
   cost-plus i = go (ltb i 301) refl
     where
@@ -117,15 +135,19 @@ module _ {samples costs : List Float} {b : Block} {room lineRoom : ℕ} (ready :
           lines-most t (b .width) (b .height) lineRoom count (ready .columns) (ready .rows),
         )
 
--- the definition's map is the one that was built
-module _ (samples costs : List Float) (b : Block) (z : Size) (t : Bool) (best : Best) (s : Standing) (is : best ≡ s .best)
-    (scan : Scan) (colours : List Float) (cells₀ lines₀ cells lines : List ℕ) (found : MapResult)
-    (scan-is : scan ≡ scanOf (b .width) (b .height) t) (colours-are : colours ≡ map (nat binary32) (z .colors))
-    (cells-zero : cells₀ ≡ replicate (b .width * b .height) 0)
-    (lines-zero : lines₀ ≡ replicate (linesOf t (b .width) (b .height)) 0)
-    (built : Built (mapOf samples costs colours (z .n) (b .lambda) scan (z .head) (best .total) cells₀ lines₀) found cells lines) where
-  pub tried-is : (r : MapResult) → found ≡ r → tried samples costs b z t s ≡ judged b z t s cells lines r
-  unfolding tried
-  tried-is r told =
+-- ---- the definition's map is the one that was built
+module _ (samples costs : List Float) (b : Block) (z : Size) (t : Bool) where
+  pub map-is : (bound : Float) (scan : Scan) (colours : List Float) (cells₀ lines₀ cells lines : List ℕ) (found : MapResult)
+      → scan ≡ scanOf (b .width) (b .height) t → colours ≡ map (nat binary32) (z .colors)
+      → cells₀ ≡ replicate (b .width * b .height) 0 → lines₀ ≡ replicate (linesOf t (b .width) (b .height)) 0
+      → Built (mapOf samples costs colours (z .n) (b .lambda) scan (z .head) bound cells₀ lines₀) found cells lines
+      → Built (mapIn samples costs b z t bound) found cells lines
+  map-is bound scan colours cells₀ lines₀ cells lines found scan-is colours-are cells-zero lines-zero built =
       let count = lines-are (b .width) (b .height) t .0 in
-      rw (← told, built .result, built .cells, built .signs, scan-is, colours-are, cells-zero, lines-zero, is, count) refl
+      rw count (rw (scan-is, colours-are, cells-zero, lines-zero, count) at built)
+
+  pub tried-is : (best : Best) (s : Standing) → best ≡ s .best → (cells lines : List ℕ) (found r : MapResult)
+      → Built (mapIn samples costs b z t (best .total)) found cells lines → found ≡ r
+      → tried samples costs b z t s ≡ judged b z t s cells lines r
+  unfolding tried
+  tried-is best s is cells lines found r built told = rw (← told, built .result, built .cells, built .signs, is) refl

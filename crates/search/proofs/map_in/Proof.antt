@@ -1,0 +1,40 @@
+use denote.Ref.{now}
+use Rattle.search.proofs.Tries.{buildable, map-is}
+use borrow.Author.Needs.{needs}
+use Rattle.search.proofs.map_in.Statement.{statement}
+use Rattle.search.proofs.map_in.Tie as tie
+
+scan-of-requires : tie.Need-scan-of-requires
+scan-of-requires c κs = search needs
+
+values-requires : tie.Need-values-requires
+values-requires c κs = search needs
+
+build-map-requires : tie.Need-build-map-requires
+build-map-requires c κs =
+    let scanned = c .before .before .before .before .before in
+    let s = scanned .before .before .before .before .before in
+    let ready = s .pre .0 in
+    let zeros = s .pre .1 in
+    buildable (ready .0) (s .args .transposed) _ (ready .1) (ready .2) _ _ _ (scanned .scan-of .ensures) (zeros .0) (zeros .1)
+
+same-length : tie.Need-same-length
+same-length c = search needs
+
+same-length-2 : tie.Need-same-length-2
+same-length-2 c = search needs
+
+returns : tie.Need-returns
+returns c =
+    let built = c .before .before .before .before in
+    let valued = built .before .before .before .before in
+    let scanned = valued .before .before in
+    let s = scanned .before .before .before .before .before in
+    let a = s .args in
+    map-is (now (a .samples)) (now (a .costs)) (a .b) (a .z) (a .transposed) (a .bound) _ _ (now (a .cells)) (now (a .lines)) _ _ _
+    (scanned .scan-of .ensures) (valued .values .ensures) (s .pre .1 .0) (s .pre .1 .1) (built .build-map .ensures)
+
+pub map-in-spec : {M : Type 1} → statement M
+map-in-spec =
+    tie.close
+    (tie.spec scan-of-requires values-requires build-map-requires same-length same-length-2 returns)
