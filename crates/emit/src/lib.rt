@@ -261,24 +261,12 @@ fn emit_lines(
     ensures { λ r. ⌜ now (out .exit) ≡ written (now (out .entry)) at (upTo (lineWords n transposed (now (flags .entry)) (now (map .entry)) w len) lines) ⌝ }
 {
     let mut pos = at;
-    let mut context: u32 = 3;
+    let mut ctx: u32 = 3;
     let mut l: usize = 0;
     while l < lines {
         let flag = flags[l];
-        pos = emit_line(
-            map,
-            codes,
-            w,
-            n,
-            transposed,
-            len,
-            l,
-            context,
-            flag,
-            out,
-            pos,
-        );
-        context = wide(flag);
+        pos = emit_line(map, codes, w, n, transposed, len, l, ctx, flag, out, pos);
+        ctx = wide(flag);
         l += 1;
     }
     pos
