@@ -228,10 +228,10 @@ pub fn color_ctx(map: &[u8], stride: usize, y: usize, x: usize, n: usize) -> Con
 
 // The rank of an index that equals the left, top or diagonal neighbour first, or none of them.
 struct Choices {
-    pub left: u8,
-    pub top: u8,
-    pub diag: u8,
-    pub rest: u8,
+    pub left: Rank,
+    pub top: Rank,
+    pub diag: Rank,
+    pub rest: Rank,
 }
 
 fn bit_of(test: bool) -> u8
@@ -252,18 +252,19 @@ fn ctx_of(left: Index, top: Index, diag: Index) -> u8
     1 + bit_of(some) + bit_of(l == t) + bit_of(all)
 }
 
-// Where index i stands: by the first of three neighbours that it equals, else at `rest`.
-fn first_of(i: u8, left: u8, top: u8, diag: u8, ranks: Choices) -> Rank
-    ensures { λ r. ⌜ r .0 ≡ cond (eqb i left) (ranks .left) (cond (eqb i top) (ranks .top) (cond (eqb i diag) (ranks .diag) (ranks .rest))) ⌝ }
+// Where an index stands: by the first of three neighbours that it equals, else at `rest`.
+fn first_of(index: Index, left: Index, top: Index, diag: Index, ranks: Choices) -> Rank
+    ensures { λ r. ⌜ r .0 ≡ cond (eqb (index .0) (left .0)) (ranks .left .0) (cond (eqb (index .0) (top .0)) (ranks .top .0) (cond (eqb (index .0) (diag .0)) (ranks .diag .0) (ranks .rest .0))) ⌝ }
 {
-    if i == left {
-        Rank(ranks.left)
-    } else if i == top {
-        Rank(ranks.top)
-    } else if i == diag {
-        Rank(ranks.diag)
+    let i = index.0;
+    if i == left.0 {
+        ranks.left
+    } else if i == top.0 {
+        ranks.top
+    } else if i == diag.0 {
+        ranks.diag
     } else {
-        Rank(ranks.rest)
+        ranks.rest
     }
 }
 
@@ -278,15 +279,14 @@ fn rank_of(left: Index, top: Index, diag: Index, index: Index) -> Rank
     let d = diag.0;
     let i = index.0;
     let ranks = Choices {
-        left: bit_of((d == t) & (l != t)),
-        top: bit_of(d != t),
-        diag: 2 - bit_of(l == t),
-        rest: i
-            + bit_of(i < l)
-            + bit_of((l != t) & (i < t))
-            + bit_of((l != d) & (d != t) & (i < d)),
+        left: Rank(bit_of((d == t) & (l != t))),
+        top: Rank(bit_of(d != t)),
+        diag: Rank(2 - bit_of(l == t)),
+        rest: Rank(
+            i + bit_of(i < l) + bit_of((l != t) & (i < t)) + bit_of((l != d) & (d != t) & (i < d)),
+        ),
     };
-    first_of(i, l, t, d, ranks)
+    first_of(index, left, top, diag, ranks)
 }
 
 // One neighbour has the ranks of three equal ones.

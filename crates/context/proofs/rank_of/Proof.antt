@@ -12,26 +12,26 @@ bit-of-requires-2 c κs = search needs
 bit-of-requires-3 : tie.Need-bit-of-requires-3
 bit-of-requires-3 c κs = search needs
 
-sub-t18 : tie.Need-sub-t18
-sub-t18 c = search needs
+sub-t20 : tie.Need-sub-t20
+sub-t20 c = search needs
 
 bit-of-requires-4 : tie.Need-bit-of-requires-4
 bit-of-requires-4 c κs = search needs
 
-add-t21 : tie.Need-add-t21
-add-t21 c = search needs
+add-t24 : tie.Need-add-t24
+add-t24 c = search needs
 
 bit-of-requires-5 : tie.Need-bit-of-requires-5
 bit-of-requires-5 c κs = search needs
 
-add-t26 : tie.Need-add-t26
-add-t26 c = search needs
+add-t29 : tie.Need-add-t29
+add-t29 c = search needs
 
 bit-of-requires-6 : tie.Need-bit-of-requires-6
 bit-of-requires-6 c κs = search needs
 
-add-t33 : tie.Need-add-t33
-add-t33 c = search needs
+add-t36 : tie.Need-add-t36
+add-t36 c = search needs
 
 first-of-requires : tie.Need-first-of-requires
 first-of-requires c κs = search needs
@@ -62,12 +62,12 @@ rank-of-spec =
     bit-of-requires
     bit-of-requires-2
     bit-of-requires-3
-    sub-t18
+    sub-t20
     bit-of-requires-4
-    add-t21
+    add-t24
     bit-of-requires-5
-    add-t26
+    add-t29
     bit-of-requires-6
-    add-t33
+    add-t36
     first-of-requires
     returns)
