@@ -1,3 +1,4 @@
+pub mod Others
 pub mod Order
 pub mod Around
 pub mod Parts

@@ -14,7 +14,7 @@ use Rattle.lists.specs.Counted.{elem, bit}
 use Rattle.lists.proofs.Elem.{Distinct}
 use Rattle.context.specs.Order.{Around, others, orderOf, place, rankOf}
 use Rattle.context.specs.Ranks.{rankFrom}
-use Rattle.context.proofs.Order.{added, elem-others, fewer, all-length}
+use Rattle.context.proofs.Others.{added, elem-others, fewer, all-length}
 
 -- one that stands in front, and one that stands behind
 place-front : (i : ℕ) (xs ys : List ℕ) → elem i xs ≡ true → place i (xs ++ ys) ≡ place i xs

@@ -1,4 +1,5 @@
 pub mod Lines
+pub mod PutLine
 pub mod Valid
 pub mod Accepted
 pub mod Kept

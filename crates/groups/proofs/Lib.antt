@@ -4,6 +4,7 @@ pub mod Sums
 pub mod Rows
 pub mod Means
 pub mod Exact
+pub mod Cuts
 pub mod Colors
 pub mod Kept
 pub mod Totals

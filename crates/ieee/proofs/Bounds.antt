@@ -18,7 +18,7 @@ use Rattle.ieee.proofs.Fractions.{downs-pos, le-whole}
 use Rattle.ieee.proofs.Signs.{add-not-neg, square-not-neg, value-not-neg, not-neg-of-test}
 use Rattle.ieee.proofs.Signs.{zero-bits}
 use Rattle.ieee.proofs.Numbers.{nat-val}
-use Rattle.ieee.proofs.Growth.{Grows, round-grows, grows-of-le}
+use Rattle.ieee.proofs.Grows.{Grows, round-grows, grows-of-le}
 
 -- ---- where a bound comes from
 pub value-under : (x : Float) (s : Bool) (a c A : ℕ) → 0 < c → HasValue x s a c → a ≤ A * c → Under x A

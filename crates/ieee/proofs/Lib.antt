@@ -4,7 +4,8 @@ pub mod Tests
 pub mod Numbers
 pub mod Signs
 pub mod Scaling
-pub mod Growth
+pub mod Grows
+pub mod Monotone
 pub mod Bounds
 pub mod Truncation
 pub mod HalfEven

@@ -20,7 +20,7 @@ use Rattle.emit.specs.Map.{orientWords, mapWords}
 use Rattle.listing.specs.Listing.{callList, Same, Begins}
 use Rattle.listing.proofs.Splits.{Splits, nil, cons, weaken, then, tell, begins-same}
 use Rattle.listing.proofs.Colors.{color-splits}
-use Rattle.listing.proofs.Map.{Fits, lines-splits}
+use Rattle.listing.proofs.Lines.{Fits, lines-splits}
 
 -- the orientation's word, or, where a side is 64, that neither is transposed
 orient-splits : (w h : ℕ) (s t : Bool) → orientOk w h s ≡ true → orientOk w h t ≡ true

@@ -12,7 +12,8 @@ use Rattle.lists.proofs.Ascending.{Above, Ascending, ascending-is}
 use Rattle.counts.specs.Counts.{ceilLog2}
 use Rattle.literals.specs.Literals.{largestStep, stepBits, stepWords, moreWords, literalWords}
 use Rattle.emit.specs.Colors.{remove, cacheWords, untaken, colorWords}
-use Rattle.emit.proofs.Untaken.{ascending-remove, ascending-untaken, length-remove, restore}
+use Rattle.emit.proofs.Remove.{ascending-remove, length-remove, restore}
+use Rattle.emit.proofs.Untaken.{ascending-untaken}
 use Rattle.listing.proofs.Splits.{Splits, nil, cons, weaken, then}
 use Rattle.literals.proofs.Words.{word-injective}
 

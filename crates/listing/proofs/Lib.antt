@@ -1,8 +1,9 @@
 pub mod Answers
 pub mod Begins
+pub mod Cells
 pub mod Colors
 pub mod Length
-pub mod Map
+pub mod Lines
 pub mod Raw
 pub mod Splits
 pub mod Values

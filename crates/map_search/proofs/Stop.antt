@@ -12,9 +12,9 @@ use lib.ListN.{getD}
 use lib.Ieee.{Float, nan, binary32, sub, lt, le, fits, ofBits, ofInt}
 use lib.Ieee.Fits.{add-fits}
 use Rattle.ieee.specs.Bounds.{NotNeg}
-use Rattle.ieee.proofs.Growth.{Grows}
+use Rattle.ieee.proofs.Grows.{Grows, grows-refl, grows-trans, stays}
 use Rattle.ieee.proofs.Signs.{round-not-neg, add-not-neg, square-not-neg, mul-not-neg}
-use Rattle.ieee.proofs.Growth.{grows-refl, grows-trans, add-self, total-grows, stays}
+use Rattle.ieee.proofs.Monotone.{add-self, total-grows}
 use Rattle.counts.specs.Counts.{uniformBits}
 use Rattle.cells.specs.declared.Cost.{Cost}
 use Rattle.cells.specs.Cell.{square, totalOf, squaresOf, ratesOf}

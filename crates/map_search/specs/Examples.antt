@@ -48,8 +48,6 @@ examples =
     -- 2 by 2, rows 10, 20: ties go to the earlier candidate, so the second row is a copy, and transposed each column is constant
     ∷ (searched rows 2 2 false zero32 (inf false), record { map = 0 ∷ 1 ∷ 0 ∷ 1 ∷ []; flags = 0 ∷ 2 ∷ []; result = Found zero32 one })
     ∷ (searched rows 2 2 true zero32 (inf false), record { map = 0 ∷ 1 ∷ 0 ∷ 1 ∷ []; flags = 1 ∷ 1 ∷ []; result = Found zero32 one })
-    -- a bound of 0 is reached at once, after the first line
-    ∷ (searched rows 2 2 true zero32 zero32, record { map = 0 ∷ 0 ∷ 0 ∷ 0 ∷ []; flags = 1 ∷ 0 ∷ []; result = Beaten })
     ∷ []
 
 pub examples-hold : map (λ r. r .0) examples ≡ map (λ r. r .1) examples

@@ -1,3 +1,5 @@
 pub mod Powers
+pub mod State
 pub mod Halving
+pub mod Rounding
 pub mod Ranges

@@ -23,7 +23,8 @@ use Rattle.text.specs.declared.Header.{Header}
 use Rattle.text.specs.Text.{most, headerAt, Small, linesIn, placesOf, isBody, textNumber, readHeader, cacheAt, paletteAt}
 use Rattle.text.specs.Answer.{shown, answer}
 use Rattle.text.proofs.Sound.{lines-small, cells-small, in-form, read-whole}
-use Rattle.text.proofs.Cut.{cutPalette, refusal-cut, accepted-cut, line-kept}
+use Rattle.text.proofs.Cut.{line-kept}
+use Rattle.text.proofs.CutPalette.{cutPalette, refusal-cut, accepted-cut}
 
 -- ---- a palette's answer
 

@@ -12,7 +12,8 @@ use borrow.Author.Needs.{needs}
 use Rattle.lists.specs.Counted.{elem}
 use Rattle.context.specs.Context.{answered}
 use Rattle.context.specs.Order.{Around, byThree, orderOf}
-use Rattle.context.proofs.Order.{FirstsOk, added, order-none, order-next, order-length, order-room}
+use Rattle.context.proofs.Others.{added}
+use Rattle.context.proofs.Order.{FirstsOk, order-none, order-next, order-length, order-room}
 use Rattle.context.proofs.Around.{three-ok, three-elem, three-count, in-three}
 use Rattle.context.proofs.answer.Statement.{statement}
 use Rattle.context.proofs.answer.Tie as tie

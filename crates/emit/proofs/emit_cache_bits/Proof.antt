@@ -15,7 +15,8 @@ use Rattle.lists.specs.Written.{written}
 use Rattle.literals.specs.Words.{bypass}
 use Rattle.emit.specs.Colors.{remove, cacheWords, untaken}
 use Rattle.emit.specs.declared.Left.{Left}
-use Rattle.emit.proofs.Untaken.{ascends-remove, length-remove, elem-shorter, cache-step, cache-none, untaken-none}
+use Rattle.emit.proofs.Remove.{ascends-remove, length-remove, elem-shorter}
+use Rattle.emit.proofs.Untaken.{cache-step, cache-none, untaken-none}
 use Rattle.emit.proofs.emit_cache_bits.Statement.{statement}
 use Rattle.emit.proofs.emit_cache_bits.Tie as tie
 

@@ -13,7 +13,7 @@ use mir.Syntax.{w16}
 use Rattle.lists.proofs.Rest.{next, done}
 use Rattle.lists.proofs.Ascending.{ascending-is}
 use Rattle.emit.specs.Colors.{remove}
-use Rattle.emit.proofs.Untaken.{without, without-remove}
+use Rattle.emit.proofs.Remove.{without, without-remove}
 use Rattle.emit.proofs.leave_out.Statement.{statement}
 use Rattle.emit.proofs.leave_out.Tie as tie
 

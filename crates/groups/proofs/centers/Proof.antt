@@ -6,7 +6,8 @@ use native.Mathlib.Nat.{le-trans}
 use lib.ListN.{getD, replicate}
 use Rattle.lists.specs.Written.{written}
 use Rattle.groups.specs.Groups.{colorsOf, prefixOf, cutTo}
-use Rattle.groups.proofs.Colors.{traced, traced-is, cut-from, cut-to, placed}
+use Rattle.groups.proofs.Cuts.{traced, traced-is, cut-from, cut-to}
+use Rattle.groups.proofs.Colors.{placed}
 use Rattle.groups.proofs.Means.{weight, mean-below, cells-to}
 use Rattle.groups.proofs.centers.Statement.{statement}
 use Rattle.groups.proofs.centers.Tie as tie

@@ -8,7 +8,9 @@ use lib.Dec.{T, lit<, le→leb}
 use lib.Ieee.Positive.{num, den}
 use lib.Ieee.{binary64, fits, inFloat}
 use Rattle.ieee.proofs.Truncation.{above-minus-one, below-two-64}
-use Rattle.samples.proofs.Halving.{Asked, asked, State, start, start-large, step, falls, y-within, Ends, ends}
+use Rattle.samples.proofs.State.{Asked, asked, State, start, start-large}
+use Rattle.samples.proofs.Halving.{step, falls}
+use Rattle.samples.proofs.Rounding.{y-within, Ends, ends}
 use Rattle.samples.proofs.narrow_positive.Statement.{statement}
 use Rattle.samples.proofs.narrow_positive.Tie as tie
 
