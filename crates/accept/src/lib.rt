@@ -127,7 +127,8 @@ fn line_matches(
 ) -> bool
     requires { ⌜ length (now map) ≡ width * height ⌝ }
     requires { ⌜ (l < linesOf transposed width height) × (other < linesOf transposed width height) × (step ≤ 1) ⌝ }
-    ensures { λ r. ⌜ r ≡ allBelow (λ a. eqb (lineCell transposed (now (map .entry)) width l a) (lineCell transposed (now (map .entry)) width other (a * step))) (lengthOf transposed width height) ⌝ }
+    ensures { λ r. ⌜ r ≡ allBelow (λ a. eqb (lineCell transposed (now (map .entry)) width l a)
+        (lineCell transposed (now (map .entry)) width other (a * step))) (lengthOf transposed width height) ⌝ }
 {
     let len = context::length_of(transposed, width, height);
     let mut a: usize = 0;
@@ -164,7 +165,8 @@ fn line_ok(map: &[u8], width: usize, height: usize, transposed: bool, l: usize, 
 fn lines_ok(map: &[u8], flags: &[u8], width: usize, height: usize, transposed: bool) -> bool
     requires { ⌜ length (now map) ≡ width * height ⌝ }
     requires { ⌜ length (now flags) ≡ linesOf transposed width height ⌝ }
-    ensures { λ r. ⌜ r ≡ allBelow (λ l. lineOk (getD (now (flags .entry)) l 0) (lineCell transposed (now (map .entry)) width) (lengthOf transposed width height) l) (linesOf transposed width height) ⌝ }
+    ensures { λ r. ⌜ r ≡ allBelow (λ l. lineOk (getD (now (flags .entry)) l 0) (lineCell transposed (now (map .entry)) width)
+        (lengthOf transposed width height) l) (linesOf transposed width height) ⌝ }
 {
     let mut l: usize = 0;
     while l < flags.len() {

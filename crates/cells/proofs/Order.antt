@@ -39,7 +39,7 @@ module _ (m : Near) (n : ℕ) (u : Usable m n) where
   order-length : length (orderOf (aroundOf m) n) ≡ m .count + length (others (firstsOf m) n)
   unfolding orderOf
   order-length =
-      let firsts = length-take-le (m .count) (m .a ∷ m .b ∷ m .c ∷ []) (u .few) in
+      let firsts = length-take-le (m .count) (m .first ∷ m .second ∷ m .third ∷ []) (u .few) in
       omega (arith, length-append (firstsOf m) (others (firstsOf m) n))
 
   pub order-some : 0 < length (orderOf (aroundOf m) n)
@@ -49,7 +49,7 @@ module _ (m : Near) (n : ℕ) (u : Usable m n) where
   unfolding orderOf
   order-under =
       all-append (λ i. i < n) (firstsOf m) (others (firstsOf m) n)
-      (all-take (λ i. i < n) (m .count) _ (u .a, (u .b, (u .c, tt)))) (others-under (firstsOf m) n)
+      (all-take (λ i. i < n) (m .count) _ (u .first, (u .second, (u .third, tt)))) (others-under (firstsOf m) n)
 
   pub order-fits : n ≤ 8 → length (orderOf (aroundOf m) n) ≤ 8
   order-fits most = omega (arith, order-length, others-fit (m .count) (firstsOf m) (u .few) (u .room) n most)
@@ -60,8 +60,8 @@ module _ (m : Near) (n : ℕ) (u : Usable m n) where
     some = u .some;
     few = u .few;
     context = u .context;
-    a = omega (arith, u .a);
-    b = omega (arith, u .b);
-    c = omega (arith, u .c);
+    first = omega (arith, u .first);
+    second = omega (arith, u .second);
+    third = omega (arith, u .third);
     room = u .room;
   }

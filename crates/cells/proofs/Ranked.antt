@@ -74,7 +74,7 @@ module _ (dists rates : List Float) (lambda : Float) where
       → chosen dists rates lambda (orderOf (aroundOf m) n)
       ≡ cheapestPick (chosen dists rates lambda (firstsOf m)) (picks (m .count) (others (firstsOf m) n))
   unfolding orderOf
-  chosen-whole m n u = by-count (m .count) (m .a) (m .b) (m .c) (u .some) (u .few) (others (firstsOf m) n)
+  chosen-whole m n u = by-count (m .count) (m .first) (m .second) (m .third) (u .some) (u .few) (others (firstsOf m) n)
     where
       by-count : (k a b c : ℕ) → 1 ≤ k → k ≤ 3 → (ys : List ℕ)
           → chosen dists rates lambda (take k (a ∷ b ∷ c ∷ []) ++ ys)
@@ -90,15 +90,15 @@ module _ (dists rates : List Float) (lambda : Float) where
   cheaper p q = cond (lt (q .total) (p .total)) q p
 
   module _ (m : Near) where
-    pub near-1 : m .count ≡ 1 → chosen dists rates lambda (firstsOf m) ≡ pick 0 (m .a)
+    pub near-1 : m .count ≡ 1 → chosen dists rates lambda (firstsOf m) ≡ pick 0 (m .first)
     unfolding chosen firstCheapest ranked cheapest
     near-1 e = rw e refl
 
-    pub near-2 : m .count ≡ 2 → chosen dists rates lambda (firstsOf m) ≡ cheaper (pick 0 (m .a)) (pick 1 (m .b))
+    pub near-2 : m .count ≡ 2 → chosen dists rates lambda (firstsOf m) ≡ cheaper (pick 0 (m .first)) (pick 1 (m .second))
     unfolding chosen firstCheapest ranked cheapest
     near-2 e = rw e refl
 
-    pub near-3 : m .count ≡ 3 → chosen dists rates lambda (firstsOf m) ≡ cheaper (cheaper (pick 0 (m .a)) (pick 1 (m .b))) (pick 2 (m .c))
+    pub near-3 : m .count ≡ 3 → chosen dists rates lambda (firstsOf m) ≡ cheaper (cheaper (pick 0 (m .first)) (pick 1 (m .second))) (pick 2 (m .third))
     unfolding chosen firstCheapest ranked cheapest
     near-3 e = rw e refl
 

@@ -133,7 +133,7 @@ fn pick_near(dists: &[f32; 8], rates: &[f32; 8], m: Near, lambda: f32) -> Pick
     requires { ⌜ Usable m 8 ⌝ }
     ensures { λ r. ⌜ r ≡ chosen (now (dists .entry)) (now (rates .entry)) lambda (firstsOf m) ⌝ }
 {
-    let a = m.a as usize;
+    let a = m.first as usize;
     let p = Pick {
         total: dists[a] + lambda * rates[0],
         rank: 0,
@@ -142,12 +142,12 @@ fn pick_near(dists: &[f32; 8], rates: &[f32; 8], m: Near, lambda: f32) -> Pick
     if m.count == 1 {
         return p;
     }
-    let b = m.b as usize;
+    let b = m.second as usize;
     let q = better(p, dists[b] + lambda * rates[1], 1, b);
     if m.count == 2 {
         return q;
     }
-    let c = m.c as usize;
+    let c = m.third as usize;
     better(q, dists[c] + lambda * rates[2], 2, c)
 }
 
@@ -178,7 +178,8 @@ fn consider(dists: &[f32; 8], rates: &[f32; 8], m: Near, v: usize, lambda: f32, 
 // The indices that are no neighbours', in ascending order.
 fn pick_rest(dists: &[f32; 8], rates: &[f32; 8], m: Near, n: usize, lambda: f32, from: Pick) -> Pick
     requires { ⌜ Usable m 8 × (n ≤ 8) ⌝ }
-    ensures { λ r. ⌜ r ≡ cheapest (λ (p : Pick). p .total) from (ranked (now (dists .entry)) (now (rates .entry)) lambda (m .count) (others (firstsOf m) n)) ⌝ }
+    ensures { λ r. ⌜ r ≡ cheapest (λ (p : Pick). p .total) from
+        (ranked (now (dists .entry)) (now (rates .entry)) lambda (m .count) (others (firstsOf m) n)) ⌝ }
 {
     let mut s = Rest {
         best: from,

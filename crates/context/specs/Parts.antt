@@ -15,7 +15,7 @@ use Rattle.context.specs.declared.Neighbour.the-variants.{Color, Nothing
 -- a context and the indices that come first, of which there are at most three
 abbrev pub held : Around → Near
 held a =
-    record { ctx = a .ctx; count = length (a .firsts); a = getD (a .firsts) 0 0; b = getD (a .firsts) 1 0; c = getD (a .firsts) 2 0 }
+    record { ctx = a .ctx; count = length (a .firsts); first = getD (a .firsts) 0 0; second = getD (a .firsts) 1 0; third = getD (a .firsts) 2 0 }
 
 -- place p stands in the map and has an index below n
 abbrev pub usable : List ℕ → ℕ → ℕ → Bool

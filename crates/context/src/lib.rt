@@ -39,9 +39,9 @@ enum Neighbour {
 pub struct Near {
     pub ctx: usize,
     pub count: usize,
-    pub a: u8,
-    pub b: u8,
-    pub c: u8,
+    pub first: u8,
+    pub second: u8,
+    pub third: u8,
 }
 
 // How many lines a map has, and how many places a line: rows, or columns when transposed.
@@ -93,15 +93,15 @@ fn neighbour_at(map: &[u8], at: usize, n: u8) -> Neighbour
     Neighbour::Nothing
 }
 
-fn near_of(ctx: usize, count: usize, a: u8, b: u8, c: u8) -> Near
-    ensures { λ r. ⌜ r ≡ record { ctx = ctx; count = count; a = a; b = b; c = c } ⌝ }
+fn near_of(ctx: usize, count: usize, first: u8, second: u8, third: u8) -> Near
+    ensures { λ r. ⌜ r ≡ record { ctx = ctx; count = count; first = first; second = second; third = third } ⌝ }
 {
     Near {
         ctx,
         count,
-        a,
-        b,
-        c,
+        first,
+        second,
+        third,
     }
 }
 
@@ -146,7 +146,7 @@ fn answer(left: Index, top: Index, diag: Index, n: u8) -> Context
     ensures { λ r. ⌜ r ≡ answered (byThree (left .0) (top .0) (diag .0)) n ⌝ }
 {
     let near = nearest(left, top, diag);
-    let mut order = [near.a, near.b, near.c, 0, 0, 0, 0, 0];
+    let mut order = [near.first, near.second, near.third, 0, 0, 0, 0, 0];
     let mut used = near.count;
     let mut v: u8 = 0;
     while v < n {
@@ -254,7 +254,8 @@ fn ctx_of(left: Index, top: Index, diag: Index) -> u8
 
 // Where an index stands: by the first of three neighbours that it equals, else at `rest`.
 fn first_of(index: Index, left: Index, top: Index, diag: Index, ranks: Choices) -> Rank
-    ensures { λ r. ⌜ r .0 ≡ cond (eqb (index .0) (left .0)) (ranks .left .0) (cond (eqb (index .0) (top .0)) (ranks .top .0) (cond (eqb (index .0) (diag .0)) (ranks .diag .0) (ranks .rest .0))) ⌝ }
+    ensures { λ r. ⌜ r .0 ≡ cond (eqb (index .0) (left .0)) (ranks .left .0)
+        (cond (eqb (index .0) (top .0)) (ranks .top .0) (cond (eqb (index .0) (diag .0)) (ranks .diag .0) (ranks .rest .0))) ⌝ }
 {
     let i = index.0;
     if i == left.0 {

@@ -116,7 +116,8 @@ fn index_at(map: &[u8], place: usize) -> Index
 fn edge_word(map: &[u8], n: usize, near: usize, place: usize) -> u32
     requires { ⌜ (2 ≤ n) × (n ≤ 8) × (near < length (now map)) × (place < length (now map)) ⌝ }
     requires { ⌜ ((i : ℕ) → i < length (now map) → getD (now map) i 0 < n) ⌝ }
-    ensures { λ r. ⌜ r ≡ rankedWord 5 (record { ctx = 0; firsts = getD (now (map .entry)) near 0 ∷ [] }) n (getD (now (map .entry)) place 0) ⌝ }
+    ensures { λ r. ⌜ r ≡ rankedWord 5 (record { ctx = 0; firsts = getD (now (map .entry)) near 0 ∷ [] }) n
+        (getD (now (map .entry)) place 0) ⌝ }
 {
     let index = index_at(map, place);
     let rank = context::rank_by_one(index_at(map, near), index);
@@ -163,7 +164,8 @@ fn line_word(
     l: usize,
     a: usize,
 ) -> u32
-    requires { ⌜ (2 ≤ n) × (n ≤ 8) × (colAt transposed l a < w) × (rowAt transposed l a * w + colAt transposed l a < length (now map)) × (Coded (now map) w (now codes)) ⌝ }
+    requires { ⌜ (2 ≤ n) × (n ≤ 8) × (colAt transposed l a < w) × (rowAt transposed l a * w + colAt transposed l a < length (now map))
+        × (Coded (now map) w (now codes)) ⌝ }
     requires { ⌜ ((i : ℕ) → i < length (now map) → getD (now map) i 0 < n) ⌝ }
     ensures { λ r. ⌜ r ≡ lineWord n transposed (now (map .entry)) w l a ⌝ }
 {
@@ -188,7 +190,8 @@ fn emit_cells(
     requires { ⌜ (LinesInside (now map) w n transposed (l + 1) count) × (Coded (now map) w (now codes)) ⌝ }
     requires { ⌜ at + count ≤ length (now out) ⌝ }
     ensures { λ r. ⌜ r ≡ at + count ⌝ }
-    ensures { λ r. ⌜ now (out .exit) ≡ written (now (out .entry)) at (upTo (λ a. lineWord n transposed (now (map .entry)) w l a ∷ []) count) ⌝ }
+    ensures { λ r. ⌜ now (out .exit) ≡ written (now (out .entry)) at
+        (upTo (λ a. lineWord n transposed (now (map .entry)) w l a ∷ []) count) ⌝ }
 {
     let mut pos = at;
     let mut a: usize = 0;
@@ -235,7 +238,8 @@ fn emit_line(
     requires { ⌜ (LinesInside (now map) w n transposed (l + 1) (sentCells flag len)) × (Coded (now map) w (now codes)) ⌝ }
     requires { ⌜ (context < 256) × (at + 1 + sentCells flag len ≤ length (now out)) ⌝ }
     ensures { λ r. ⌜ r ≡ at + 1 + sentCells flag len ⌝ }
-    ensures { λ r. ⌜ now (out .exit) ≡ written (now (out .entry)) at (word 4 context flag ∷ upTo (λ a. lineWord n transposed (now (map .entry)) w l a ∷ []) (sentCells flag len)) ⌝ }
+    ensures { λ r. ⌜ now (out .exit) ≡ written (now (out .entry)) at
+        (word 4 context flag ∷ upTo (λ a. lineWord n transposed (now (map .entry)) w l a ∷ []) (sentCells flag len)) ⌝ }
 {
     let next = literals::put(out, at, literals::call(4, context, wide(flag)));
     let count = sent_cells(flag, len);
@@ -255,10 +259,12 @@ fn emit_lines(
     out: &mut [u32],
     at: usize,
 ) -> usize
-    requires { ⌜ (LinesInside (now map) w n transposed lines len) × (1 ≤ len) × (lines ≤ length (now flags)) × (Coded (now map) w (now codes)) ⌝ }
+    requires { ⌜ (LinesInside (now map) w n transposed lines len) × (1 ≤ len) × (lines ≤ length (now flags))
+        × (Coded (now map) w (now codes)) ⌝ }
     requires { ⌜ at + length (upTo (lineWords n transposed (now flags) (now map) w len) lines) ≤ length (now out) ⌝ }
     ensures { λ r. ⌜ r ≡ at + length (upTo (lineWords n transposed (now (flags .entry)) (now (map .entry)) w len) lines) ⌝ }
-    ensures { λ r. ⌜ now (out .exit) ≡ written (now (out .entry)) at (upTo (lineWords n transposed (now (flags .entry)) (now (map .entry)) w len) lines) ⌝ }
+    ensures { λ r. ⌜ now (out .exit) ≡ written (now (out .entry)) at
+        (upTo (lineWords n transposed (now (flags .entry)) (now (map .entry)) w len) lines) ⌝ }
 {
     let mut pos = at;
     let mut ctx: u32 = 3;
@@ -296,7 +302,8 @@ fn emit_coded(
     out: &mut [u32],
     at: usize,
 ) -> usize
-    requires { ⌜ (LinesInside (now map) w n transposed (linesOf transposed w h) (lengthOf transposed w h)) × (w ≤ 64) × (length (now map) ≤ length (now codes)) ⌝ }
+    requires { ⌜ (LinesInside (now map) w n transposed (linesOf transposed w h) (lengthOf transposed w h)) × (w ≤ 64)
+        × (length (now map) ≤ length (now codes)) ⌝ }
     requires { ⌜ (1 ≤ lengthOf transposed w h) × (linesOf transposed w h ≤ length (now flags)) ⌝ }
     requires { ⌜ at + length (mapWords n transposed (now flags) (now map) w h) ≤ length (now out) ⌝ }
     ensures { λ r. ⌜ r ≡ at + length (mapWords n transposed (now (flags .entry)) (now (map .entry)) w h) ⌝ }
@@ -320,7 +327,8 @@ pub fn emit_map(
     out: &mut [u32],
     at: usize,
 ) -> usize
-    requires { ⌜ (LinesInside (now map) w n transposed (linesOf transposed w h) (lengthOf transposed w h)) × (w ≤ 64) × (length (now map) ≤ 4096) ⌝ }
+    requires { ⌜ (LinesInside (now map) w n transposed (linesOf transposed w h) (lengthOf transposed w h)) × (w ≤ 64)
+        × (length (now map) ≤ 4096) ⌝ }
     requires { ⌜ (1 ≤ lengthOf transposed w h) × (linesOf transposed w h ≤ length (now flags)) ⌝ }
     requires { ⌜ at + length (mapWords n transposed (now flags) (now map) w h) ≤ length (now out) ⌝ }
     ensures { λ r. ⌜ r ≡ at + length (mapWords n transposed (now (flags .entry)) (now (map .entry)) w h) ⌝ }

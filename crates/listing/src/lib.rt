@@ -91,9 +91,12 @@ fn emit_list(
 ) -> Listed
     requires { ⌜ Accepted width height bd (now cache) (paletteOf colors n transposed (now map) (now flags)) ⌝ }
     requires { ⌜ (n ≤ 8) × (4234 ≤ length (now out)) ⌝ }
-    ensures { λ r. ⌜ (r .number ≡ 0) × (r .count ≡ length (callList width height bd (now (cache .entry)) (paletteOf colors n transposed (now (map .entry)) (now (flags .entry))))) ⌝ }
-    ensures { λ r. ⌜ r .«raw_width» ≡ rawWidth (callList width height bd (now (cache .entry)) (paletteOf colors n transposed (now (map .entry)) (now (flags .entry)))) ⌝ }
-    ensures { λ r. ⌜ now (out .exit) ≡ written (now (out .entry)) 0 (callList width height bd (now (cache .entry)) (paletteOf colors n transposed (now (map .entry)) (now (flags .entry)))) ⌝ }
+    ensures { λ r. ⌜ (r .number ≡ 0) × (r .count ≡ length (callList width height bd (now (cache .entry))
+        (paletteOf colors n transposed (now (map .entry)) (now (flags .entry))))) ⌝ }
+    ensures { λ r. ⌜ r .«raw_width» ≡ rawWidth (callList width height bd (now (cache .entry))
+        (paletteOf colors n transposed (now (map .entry)) (now (flags .entry)))) ⌝ }
+    ensures { λ r. ⌜ now (out .exit) ≡ written (now (out .entry)) 0
+        (callList width height bd (now (cache .entry)) (paletteOf colors n transposed (now (map .entry)) (now (flags .entry)))) ⌝ }
 {
     let at = emit::emit_colors(colors, n, bd, cache, out, 0);
     let before = raw_width(out, at);
@@ -122,7 +125,8 @@ fn copy_words(from: &[u32], count: usize, to: &mut [u32])
 fn deliver(listed: Listed, aside: &[u32], words: &mut [u32]) -> Listed
     requires { ⌜ listed .count ≤ length (now aside) ⌝ }
     ensures { λ r. ⌜ r ≡ cond (leb (listed .count) (length (now (words .entry)))) listed (refusedBy 16) ⌝ }
-    ensures { λ r. ⌜ now (words .exit) ≡ cond (leb (listed .count) (length (now (words .entry)))) (written (now (words .entry)) 0 (take (listed .count) (now (aside .entry)))) (now (words .entry)) ⌝ }
+    ensures { λ r. ⌜ now (words .exit) ≡ cond (leb (listed .count) (length (now (words .entry))))
+        (written (now (words .entry)) 0 (take (listed .count) (now (aside .entry)))) (now (words .entry)) ⌝ }
 {
     let room = words.len();
     let count = listed.count;
@@ -149,7 +153,8 @@ fn list_by(
     words: &mut [u32],
 ) -> Listed
     requires { ⌜ 4234 ≤ length (now aside) ⌝ }
-    ensures { λ r. ⌜ Lists width height bd (now (cache .entry)) (paletteOf colors n transposed (now (map .entry)) (now (flags .entry))) (now (words .entry)) (now (words .exit)) r ⌝ }
+    ensures { λ r. ⌜ Lists width height bd (now (cache .entry))
+        (paletteOf colors n transposed (now (map .entry)) (now (flags .entry))) (now (words .entry)) (now (words .exit)) r ⌝ }
 {
     let cached = cache.len();
     let number = accept::fault(width, height, bd, colors, n, transposed, map, flags, cached);
@@ -184,7 +189,8 @@ pub fn list(
     cache: &[u16],
     words: &mut [u32],
 ) -> Listed
-    ensures { λ r. ⌜ Lists width height bd (now (cache .entry)) (paletteOf colors n transposed (now (map .entry)) (now (flags .entry))) (now (words .entry)) (now (words .exit)) r ⌝ }
+    ensures { λ r. ⌜ Lists width height bd (now (cache .entry))
+        (paletteOf colors n transposed (now (map .entry)) (now (flags .entry))) (now (words .entry)) (now (words .exit)) r ⌝ }
 {
     // The longest list: 64 by 64 cells with 64 flags, 64 cache bits, 8 colours in 9 calls, and the size.
     let mut aside = [0u32; 4234];
@@ -242,7 +248,8 @@ pub fn pred(
     flags: &[u8],
     values: &mut [f32],
 ) -> u32
-    ensures { λ r. ⌜ Predicts width height bd (paletteOf colors n transposed (now (map .entry)) (now (flags .entry))) (now (values .entry)) (now (values .exit)) r ⌝ }
+    ensures { λ r. ⌜ Predicts width height bd (paletteOf colors n transposed (now (map .entry)) (now (flags .entry)))
+        (now (values .entry)) (now (values .exit)) r ⌝ }
 {
     let number = accept::fault(width, height, bd, colors, n, transposed, map, flags, 0);
     if number != 0 {

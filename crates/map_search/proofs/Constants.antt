@@ -26,7 +26,7 @@ module _ (samples costs colours : List Float) (n : ℕ) (lambda : Float) (s : Sc
   rates = ratesOf costs n (nearCell m s l 0 .ctx) (eqb l 0)
 
   abbrev byCode : ℕ → Choice
-  byCode c = constantBy dists rates (nearCell m s l 0 .a) (rowCost costs ctx 1) c
+  byCode c = constantBy dists rates (nearCell m s l 0 .first) (rowCost costs ctx 1) c
 
   rates-same : rates ≡ ratesAt samples costs colours n lambda s m l 0
   rates-same = rw (context-same m s l 0, add-zero) refl
@@ -37,14 +37,14 @@ module _ (samples costs colours : List Float) (n : ℕ) (lambda : Float) (s : Sc
       (rw (eight-at (λ c. distLine samples colours s l (λ a. c) (s .len)) c (omega arith)) refl)
 
   constants-same : (c k : ℕ) → c + k ≤ n
-      → constantsBy dists rates (nearCell m s l 0 .a) (rowCost costs ctx 1) c k ≡ constants samples costs colours n lambda s m l ctx c k
+      → constantsBy dists rates (nearCell m s l 0 .first) (rowCost costs ctx 1) c k ≡ constants samples costs colours n lambda s m l ctx c k
   unfolding constantsBy constants
   constants-same c zero inside = refl
   constants-same c (suc k) inside = rw (constant-same c (omega arith), constants-same (c + 1) k (omega arith)) refl
 
   pub best-same :
       cheapest (λ (d : Choice). totalOf (d .cost) lambda) (cond (eqb l 0) (byCode 0) (copiedBy samples colours s m l (rowCost costs ctx 2)))
-      (constantsBy dists rates (nearCell m s l 0 .a) (rowCost costs ctx 1) 0 n)
+      (constantsBy dists rates (nearCell m s l 0 .first) (rowCost costs ctx 1) 0 n)
       ≡ bestOf samples costs colours n lambda s m l ctx
   unfolding bestOf
   best-same = rw (constant-same 0 some, constants-same 0 n (omega arith)) refl

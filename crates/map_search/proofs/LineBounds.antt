@@ -74,7 +74,7 @@ module _ (samples costs colours : List Float) (n : ℕ) (lambda : Float) (s : Sc
   first-rate-within c under =
       let some : 0 < n = omega (arith, known .two) in
       let near = near-usable m s l 0 n below some (known .most) in
-      let small = rank-small c (nearCell m s l 0 .a) (omega (arith, known .most)) (omega (arith, near .a, known .most)) in
+      let small = rank-small c (nearCell m s l 0 .first) (omega (arith, known .most)) (omega (arith, near .first, known .most)) in
       cell-rates-within samples costs colours n lambda s known m l below on 0 (rankOf (aroundCell m s l 0) n c)
       (rw (first-rank m s l n below some (known .most) c under) small)
 

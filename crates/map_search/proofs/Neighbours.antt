@@ -48,7 +48,7 @@ module _ (m : List ℕ) (s : Scan) (l a : ℕ) where
 
 -- at a line's first cell one neighbour alone comes first
 pub first-rank : (m : List ℕ) (s : Scan) (l n : ℕ) → Below m n → 0 < n → n ≤ 8 → (c : ℕ) → c < n
-    → rankOf (aroundCell m s l 0) n c ≡ rankBy c (nearCell m s l 0 .a)
+    → rankOf (aroundCell m s l 0) n c ≡ rankBy c (nearCell m s l 0 .first)
 first-rank m s l n below some most c under =
     edge-rank m (s .w) (rowAt (s .transposed) l 0) (colAt (s .transposed) l 0) n c (at-edge (s .transposed) l) some most
-    (omega (arith, near-usable m s l 0 n below some most .a)) under
+    (omega (arith, near-usable m s l 0 n below some most .first)) under

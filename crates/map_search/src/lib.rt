@@ -196,7 +196,8 @@ fn best_const(
     from: Choice,
 ) -> Choice
     requires { ⌜ (n ≤ 8) × (v < 8) ⌝ }
-    ensures { λ r. ⌜ r ≡ cheapest (λ (c : Choice). totalOf (c .cost) lambda) from (constantsBy (now (dists .entry)) (now (rates .entry)) v row 0 n) ⌝ }
+    ensures { λ r. ⌜ r ≡ cheapest (λ (c : Choice). totalOf (c .cost) lambda) from
+        (constantsBy (now (dists .entry)) (now (rates .entry)) v row 0 n) ⌝ }
 {
     let mut best = from;
     let mut c: usize = 0;
@@ -258,7 +259,8 @@ fn cell_by_cell(
 ) -> cells::Cost
     requires { ⌜ Sound s (length (now src)) × (length (now src) ≤ length (now map)) × (l < s .lines) ⌝ }
     requires { ⌜ (2 ≤ n) × (n ≤ 8) × (length (now costs) ≡ 301) × Below (now map) n ⌝ }
-    ensures { λ r. ⌜ Halted (now (src .entry)) (now (costs .entry)) (now (colors .entry)) n lambda s (now (map .entry)) l row limit r (now (map .exit)) ⌝ }
+    ensures { λ r. ⌜ Halted (now (src .entry)) (now (costs .entry)) (now (colors .entry)) n lambda s (now (map .entry)) l row limit r
+        (now (map .exit)) ⌝ }
 {
     let mut cost = cells::Cost {
         dist: 0.0,
@@ -332,7 +334,7 @@ fn line_best(
 {
     let m = near_cell(map, s, l, 0);
     let k = m.ctx;
-    let v = m.a as usize;
+    let v = m.first as usize;
     let rates = cells::rates(costs, n, k, l == 0);
     let dists = const_dists(src, colors, s, l);
     let row = row_cost(costs, ctx, 1);
@@ -368,10 +370,12 @@ fn choose_line(
     lambda: f32,
     ctx: usize,
 ) -> Choice
-    requires { ⌜ Sound s (length (now src)) × (length (now src) ≤ length (now map)) × (length (now map) ≤ 4096) × (l < s .lines) × (ctx ≤ 3) ⌝ }
+    requires { ⌜ Sound s (length (now src)) × (length (now src) ≤ length (now map)) × (length (now map) ≤ 4096) × (l < s .lines)
+        × (ctx ≤ 3) ⌝ }
     requires { ⌜ (2 ≤ n) × (n ≤ 8) × (length (now costs) ≡ 301) × Below (now map) n × Priced (now costs) lambda ⌝ }
     ensures { λ r. ⌜ r ≡ lineOf (now (src .entry)) (now (costs .entry)) (now (colors .entry)) n lambda s (now (map .entry)) l ctx ⌝ }
-    ensures { λ r. ⌜ now (map .exit) ≡ putLine (now (src .entry)) (now (costs .entry)) (now (colors .entry)) n lambda s (now (map .entry)) l ctx r ⌝ }
+    ensures { λ r. ⌜ now (map .exit) ≡ putLine (now (src .entry)) (now (costs .entry)) (now (colors .entry)) n lambda s
+        (now (map .entry)) l ctx r ⌝ }
 {
     let best = line_best(src, map, costs, colors, s, l, n, lambda, ctx);
     let row = row_cost(costs, ctx, 0);
@@ -408,10 +412,11 @@ pub fn build_map(
     map: &mut [u8],
     flags: &mut [u8],
 ) -> MapResult
-    requires { ⌜ Sound s (length (now src)) × (length (now src) ≤ length (now map)) × (length (now map) ≤ 4096) × (s .lines ≤ length (now flags)) ⌝ }
+    requires { ⌜ Sound s (length (now src)) × (length (now src) ≤ length (now map)) × (length (now map) ≤ 4096)
+        × (s .lines ≤ length (now flags)) ⌝ }
     requires { ⌜ (2 ≤ n) × (n ≤ 8) × (length (now costs) ≡ 301) × Below (now map) n × Priced (now costs) lambda ⌝ }
-    ensures { λ r. ⌜ Built (mapOf (now (src .entry)) (now (costs .entry)) (now (colors .entry)) n lambda s head bound (now (map .entry)) (now (flags .entry)))
-        r (now (map .exit)) (now (flags .exit)) ⌝ }
+    ensures { λ r. ⌜ Built (mapOf (now (src .entry)) (now (costs .entry)) (now (colors .entry)) n lambda s head bound
+        (now (map .entry)) (now (flags .entry))) r (now (map .exit)) (now (flags .exit)) ⌝ }
 {
     let mut cost = cells::Cost {
         dist: 0.0,

@@ -51,9 +51,9 @@ held-usable a n count context p h ok =
       some = count .0;
       few = count .1;
       context = context;
-      a = under-at n (a .firsts) p u 0;
-      b = under-at n (a .firsts) p u 1;
-      c = under-at n (a .firsts) p u 2;
+      first = under-at n (a .firsts) p u 0;
+      second = under-at n (a .firsts) p u 1;
+      third = under-at n (a .firsts) p u 2;
       room = rw e (λ v g f. omega (arith, order-room a 8 (ok 8 h) v g f, length-append (a .firsts) (others (a .firsts) v)));
     }
 
@@ -106,8 +106,8 @@ rank-one v n c h = sym (rank-from (record { ctx = 0; firsts = v ∷ [] }) n c (r
     go false p false q = rw (lt-ltb v c (omega (arith, ltb-false c v q, eqb-false c v p))) (omega arith)
 
 -- on the top row and in the left column there is one neighbour
-pub edge-rank : (m : List ℕ) (w y x n c : ℕ) → (y ≡ 0) ⊎ (x ≡ 0) → 0 < n → n ≤ 8 → nearAt m w y x .a < 8 → c < n
-    → rankOf (around byThree m w y x) n c ≡ rankBy c (nearAt m w y x .a)
+pub edge-rank : (m : List ℕ) (w y x n c : ℕ) → (y ≡ 0) ⊎ (x ≡ 0) → 0 < n → n ≤ 8 → nearAt m w y x .first < 8 → c < n
+    → rankOf (around byThree m w y x) n c ≡ rankBy c (nearAt m w y x .first)
 unfolding nearAt around rankOf
 edge-rank m w zero zero n c e p h g k = ap (place c) (sym (same-order m w 0 0 n p)) ∙ rank-one 0 n c k
 edge-rank m w zero (suc x) n c e p h g k = rank-one _ n c k

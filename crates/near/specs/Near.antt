@@ -22,7 +22,7 @@ nearAt m w (suc y) x = held (around byThree m w (suc y) x)
 
 -- the neighbours' indices
 abbrev pub firstsOf : Near → List ℕ
-firstsOf m = take (m .count) (m .a ∷ m .b ∷ m .c ∷ [])
+firstsOf m = take (m .count) (m .first ∷ m .second ∷ m .third ∷ [])
 
 abbrev pub aroundOf : Near → Around
 aroundOf m = record { ctx = m .ctx; firsts = firstsOf m }
@@ -36,9 +36,9 @@ pub record Usable (m : Near) (n : ℕ) : Type 0 where
   pub some : 1 ≤ m .count
   pub few : m .count ≤ 3
   pub context : m .ctx < 5
-  pub a : m .a < n
-  pub b : m .b < n
-  pub c : m .c < n
+  pub first : m .first < n
+  pub second : m .second < n
+  pub third : m .third < n
   pub room : (v : ℕ) → v < 8 → elem v (firstsOf m) ≡ false → m .count + length (others (firstsOf m) v) < 8
 
 -- the rank of index c where v alone comes first

@@ -15,9 +15,9 @@ fn near_one(v: u8) -> Near
     Near {
         ctx: 0,
         count: 1,
-        a: v,
-        b: 0,
-        c: 0,
+        first: v,
+        second: 0,
+        third: 0,
     }
 }
 
@@ -47,17 +47,17 @@ pub fn is_near(m: Near, v: u8) -> bool
     requires { ⌜ (1 ≤ m .count) × (m .count ≤ 3) ⌝ }
     ensures { λ r. ⌜ r ≡ elem v (firstsOf m) ⌝ }
 {
-    if v == m.a {
+    if v == m.first {
         return true;
     }
     if m.count == 1 {
         return false;
     }
-    if v == m.b {
+    if v == m.second {
         return true;
     }
     if m.count == 2 {
         return false;
     }
-    v == m.c
+    v == m.third
 }

@@ -55,7 +55,8 @@ pub fn list(
     cache: &[u16],
     words: &mut [u32],
 ) -> Listed
-    ensures { λ r. ⌜ Lists width height bd (now (cache .entry)) (paletteOf colors n transposed (now (map .entry)) (now (flags .entry))) (now (words .entry)) (now (words .exit)) r ⌝ }
+    ensures { λ r. ⌜ Lists width height bd (now (cache .entry))
+        (paletteOf colors n transposed (now (map .entry)) (now (flags .entry))) (now (words .entry)) (now (words .exit)) r ⌝ }
 {
     listing::list(
         width,
@@ -83,7 +84,8 @@ pub fn pred(
     flags: &[u8],
     values: &mut [f32],
 ) -> u32
-    ensures { λ r. ⌜ Predicts width height bd (paletteOf colors n transposed (now (map .entry)) (now (flags .entry))) (now (values .entry)) (now (values .exit)) r ⌝ }
+    ensures { λ r. ⌜ Predicts width height bd (paletteOf colors n transposed (now (map .entry)) (now (flags .entry)))
+        (now (values .entry)) (now (values .exit)) r ⌝ }
 {
     listing::pred(width, height, bd, colors, n, transposed, map, flags, values)
 }

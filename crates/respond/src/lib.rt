@@ -18,8 +18,11 @@ fn print_palette(
     out: &mut [u8],
 ) -> usize
     requires { ⌜ 105859 ≤ length (now out) ⌝ }
-    ensures { λ r. ⌜ r ≡ length (shown (h .width) (h .height) (h .bd) (now (cache .entry)) (paletteOf colors (h .n) (h .transposed) (now (map .entry)) (now (flags .entry)))) ⌝ }
-    ensures { λ r. ⌜ now (out .exit) ≡ written (now (out .entry)) 0 (shown (h .width) (h .height) (h .bd) (now (cache .entry)) (paletteOf colors (h .n) (h .transposed) (now (map .entry)) (now (flags .entry)))) ⌝ }
+    ensures { λ r. ⌜ r ≡ length (shown (h .width) (h .height) (h .bd) (now (cache .entry))
+        (paletteOf colors (h .n) (h .transposed) (now (map .entry)) (now (flags .entry)))) ⌝ }
+    ensures { λ r. ⌜ now (out .exit) ≡ written (now (out .entry)) 0
+        (shown (h .width) (h .height) (h .bd) (now (cache .entry))
+        (paletteOf colors (h .n) (h .transposed) (now (map .entry)) (now (flags .entry)))) ⌝ }
 {
     let mut words = [0u32; 4234];
     let l = palette::list(

@@ -21,6 +21,7 @@ use Rattle.search.specs.declared.Palette.{Palette}
 use Rattle.search.specs.Search.{Standing, searched, histogramIn, foundIn, paletteBy}
 use Rattle.search.specs.Steps.{Ready, Stands, Written}
 use Rattle.search.proofs.Lengths.{lines-are}
+use Rattle.search.proofs.Tries.{ready-with}
 use Rattle.search.proofs.Colors.{levelsIn, levels-top, is-histogram}
 use Rattle.search.proofs.Kept.{Kept, kept-cells, kept-flags}
 use Rattle.search.proofs.Finds.{finds}
@@ -33,21 +34,7 @@ module _ {samples costs : List Float} {b : Block} {room lineRoom : ℕ} (ready :
   pub ready-aside : (cells lines : ℕ) → cells ≡ 4096 → lines ≡ 64 → Ready samples costs b cells lines
   ready-aside cells lines c l =
       let small : b .width * b .height ≤ 64 * 64 = mul-le-mul (ready .wideMost) (ready .highMost) in
-      record {
-        wide = ready .wide;
-        wideMost = ready .wideMost;
-        high = ready .high;
-        highMost = ready .highMost;
-        deep = ready .deep;
-        deepMost = ready .deepMost;
-        count = ready .count;
-        weight = ready .weight;
-        priced = ready .priced;
-        sampled = ready .sampled;
-        room = omega arith;
-        columns = omega (arith, ready .wideMost);
-        rows = omega (arith, ready .highMost);
-      }
+      ready-with ready cells lines (omega (arith, small, c)) (omega (arith, l))
 
   module _ {h : Histogram} (is : h ≡ histogramIn samples) (two : 2 ≤ h .n) (few : h .n ≤ 32) where
     pub known : (last : ℕ) (table : List Float) (cuts : List ℕ) → last ≡ min 8 (h .n) → TablesOf h last table cuts

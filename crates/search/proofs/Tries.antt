@@ -65,9 +65,9 @@ pub still-ready : {samples costs : List Float} {b : Block} {room lineRoom : ℕ}
 still-ready room' lineRoom' r e f = rw (e, f) r
 
 module _ {samples costs : List Float} {b : Block} {room lineRoom : ℕ} (ready : Ready samples costs b room lineRoom) where
-  -- and so are buffers for just one map
-  pub ready-for-one : Ready samples costs b (b .width * b .height) 64
-  ready-for-one = record {
+  -- and so are others that hold every map of the block
+  pub ready-with : (cells lines : ℕ) → b .width * b .height ≤ cells → 64 ≤ lines → Ready samples costs b cells lines
+  ready-with cells lines c l = record {
     wide = ready .wide;
     wideMost = ready .wideMost;
     high = ready .high;
@@ -78,9 +78,9 @@ module _ {samples costs : List Float} {b : Block} {room lineRoom : ℕ} (ready :
     weight = ready .weight;
     priced = ready .priced;
     sampled = ready .sampled;
-    room = omega arith;
-    columns = ready .wideMost;
-    rows = ready .highMost;
+    room = c;
+    columns = omega (arith, ready .wideMost, l);
+    rows = omega (arith, ready .highMost, l);
   }
 
   cost-plus : (i : ℕ) → NotNeg (getD costs i nan)

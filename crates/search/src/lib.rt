@@ -191,7 +191,8 @@ fn map_in(
     requires { ⌜ Ready (now samples) (now costs) b (b .width * b .height) 64 × (2 ≤ z .n) × (z .n ≤ 8) ⌝ }
     requires { ⌜ (now cells ≡ replicate (b .width * b .height) 0)
         × (now lines ≡ replicate (linesOf transposed (b .width) (b .height)) 0) ⌝ }
-    ensures { λ r. ⌜ Built (mapIn (now (samples .entry)) (now (costs .entry)) b z transposed bound) r (now (cells .exit)) (now (lines .exit)) ⌝ }
+    ensures { λ r. ⌜ Built (mapIn (now (samples .entry)) (now (costs .entry)) b z transposed bound) r
+        (now (cells .exit)) (now (lines .exit)) ⌝ }
 {
     let s = map_search::scan_of(b.width, b.height, transposed);
     let colors = z.colors;

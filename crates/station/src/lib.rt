@@ -47,7 +47,8 @@ pub extern "C" fn palette_context(
     context: &mut [u32; 9],
 ) -> u32
     ensures { λ r. ⌜ r ≡ contextOf (now (map .entry)) stride y x n .number ⌝ }
-    ensures { λ r. ⌜ now (context .exit) ≡ contextOf (now (map .entry)) stride y x n .ctx ∷ contextOf (now (map .entry)) stride y x n .order ⌝ }
+    ensures { λ r. ⌜ now (context .exit) ≡ contextOf (now (map .entry)) stride y x n .ctx
+        ∷ contextOf (now (map .entry)) stride y x n .order ⌝ }
 {
     let found = palette::color_ctx(map, stride, y, x, n);
     let order = found.order;
@@ -113,7 +114,9 @@ pub extern "C" fn palette_list(
     words: &mut [u32],
     listed: &mut [u32; 2],
 ) -> u32
-    ensures { λ r. ⌜ ListsTo width height bd (now (cache .entry)) (paletteOf (now (colors .entry)) n transposed (now (map .entry)) (now (flags .entry))) (now (words .entry)) (now (words .exit)) (now (listed .exit)) r ⌝ }
+    ensures { λ r. ⌜ ListsTo width height bd (now (cache .entry))
+        (paletteOf (now (colors .entry)) n transposed (now (map .entry)) (now (flags .entry)))
+        (now (words .entry)) (now (words .exit)) (now (listed .exit)) r ⌝ }
 {
     let eight = *colors;
     let answer = palette::list(
@@ -144,7 +147,8 @@ pub extern "C" fn palette_pred(
     flags: &[u8],
     values: &mut [f32],
 ) -> u32
-    ensures { λ r. ⌜ Predicts width height bd (paletteOf (now (colors .entry)) n transposed (now (map .entry)) (now (flags .entry))) (now (values .entry)) (now (values .exit)) r ⌝ }
+    ensures { λ r. ⌜ Predicts width height bd (paletteOf (now (colors .entry)) n transposed (now (map .entry)) (now (flags .entry)))
+        (now (values .entry)) (now (values .exit)) r ⌝ }
 {
     let eight = *colors;
     palette::pred(width, height, bd, eight, n, transposed, map, flags, values)

@@ -107,7 +107,8 @@ pub fn cells_in(h: Header) -> usize
 pub fn places_of(h: Header, at: usize) -> Places
     requires { ⌜ Small h × (at < 1000000000) ⌝ }
     ensures { λ r. ⌜ r ≡ placesOf h at ⌝ }
-    ensures { λ r. ⌜ (r .colors ≤ at + 33972) × (r .cache ≤ at + 33972) × (r .flags ≤ at + 33972) × (r .rows ≤ at + 33972) × (r .end ≤ at + 33972) ⌝ }
+    ensures { λ r. ⌜ (r .colors ≤ at + 33972) × (r .cache ≤ at + 33972) × (r .flags ≤ at + 33972) × (r .rows ≤ at + 33972)
+        × (r .end ≤ at + 33972) ⌝ }
 {
     let colors = at + 49;
     let cache = colors + (8 * h.n + 1);
@@ -189,10 +190,14 @@ pub fn read_palette(
     requires { ⌜ at < 1000000000 ⌝ }
     requires { ⌜ (8 ≤ length (now colors)) × (64 ≤ length (now cache)) × (64 ≤ length (now flags)) × (4096 ≤ length (now map)) ⌝ }
     ensures { λ r. ⌜ (r ≡ readHeader (now (s .entry)) at) × Small r ⌝ }
-    ensures { λ r. ⌜ now (colors .exit) ≡ cond (eqb (r .number) 0) (written (now (colors .entry)) 0 (cut 65535 (paletteAt (now (s .entry)) at r .colors))) (now (colors .entry)) ⌝ }
-    ensures { λ r. ⌜ now (cache .exit) ≡ cond (eqb (r .number) 0) (written (now (cache .entry)) 0 (cut 65535 (cacheAt (now (s .entry)) at r))) (now (cache .entry)) ⌝ }
-    ensures { λ r. ⌜ now (flags .exit) ≡ cond (eqb (r .number) 0) (written (now (flags .entry)) 0 (cut 255 (paletteAt (now (s .entry)) at r .flags))) (now (flags .entry)) ⌝ }
-    ensures { λ r. ⌜ now (map .exit) ≡ cond (eqb (r .number) 0) (written (now (map .entry)) 0 (cut 255 (paletteAt (now (s .entry)) at r .map))) (now (map .entry)) ⌝ }
+    ensures { λ r. ⌜ now (colors .exit) ≡ cond (eqb (r .number) 0)
+        (written (now (colors .entry)) 0 (cut 65535 (paletteAt (now (s .entry)) at r .colors))) (now (colors .entry)) ⌝ }
+    ensures { λ r. ⌜ now (cache .exit) ≡ cond (eqb (r .number) 0)
+        (written (now (cache .entry)) 0 (cut 65535 (cacheAt (now (s .entry)) at r))) (now (cache .entry)) ⌝ }
+    ensures { λ r. ⌜ now (flags .exit) ≡ cond (eqb (r .number) 0)
+        (written (now (flags .entry)) 0 (cut 255 (paletteAt (now (s .entry)) at r .flags))) (now (flags .entry)) ⌝ }
+    ensures { λ r. ⌜ now (map .exit) ≡ cond (eqb (r .number) 0)
+        (written (now (map .entry)) 0 (cut 255 (paletteAt (now (s .entry)) at r .map))) (now (map .entry)) ⌝ }
 {
     let h = read_header(s, at);
     let number = text_number(s, at, h);

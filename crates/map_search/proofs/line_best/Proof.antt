@@ -44,7 +44,7 @@ row-cost-requires c κs = search needs
 constant-requires : tie.Need-constant-requires
 constant-requires c κs =
     let near = c .before .before .before .before .before .before in
-    (omega arith, omega (arith, fit near .a, near .before .before .before .before .pre .1 .1))
+    (omega arith, omega (arith, fit near .first, near .before .before .before .before .pre .1 .1))
 
 row-cost-requires-2 : tie.Need-row-cost-requires-2
 row-cost-requires-2 c κs =
@@ -60,7 +60,7 @@ best-const-requires : tie.Need-best-const-requires
 best-const-requires c κs =
     let near = c .before .before .before .before .before .before .before .before .before .before .before in
     let s = near .before .before .before .before in
-    (s .pre .1 .1, omega (arith, fit near .a, s .pre .1 .1))
+    (s .pre .1 .1, omega (arith, fit near .first, s .pre .1 .1))
 
 returns : tie.Need-returns
 returns c =

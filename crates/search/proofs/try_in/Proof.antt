@@ -1,12 +1,13 @@
 use mathlib.Core.Path.{_≡_}
 use mathlib.Core.List.{List}
 use Prim.Native.Nat.{ℕ}
+use native.Mathlib.Omega.{arith}
 use denote.Ref.{now}
 use Rattle.map_search.specs.declared.MapResult.{MapResult}
 use Rattle.map_search.specs.declared.MapResult.the-variants.{Found, Beaten}
 use Rattle.search.specs.Search.{Standing, judged, tried}
 use Rattle.search.specs.Steps.{Stands}
-use Rattle.search.proofs.Tries.{ready-for-one, room-for, tried-is}
+use Rattle.search.proofs.Tries.{ready-with, room-for, tried-is}
 use borrow.Author.Needs.{needs}
 use Rattle.search.proofs.try_in.Statement.{statement}
 use Rattle.search.proofs.try_in.Tie as tie
@@ -35,7 +36,7 @@ map-in-requires : tie.Need-map-in-requires
 map-in-requires c κs =
     let s = c .before .before .before .before .before .before .before .before in
     let ready = s .pre .0 in
-    ((ready-for-one (ready .0), ready .1, ready .2), s .pre .1)
+    ((ready-with (ready .0) _ 64 (omega arith) (omega arith), ready .1, ready .2), s .pre .1)
 
 enum-told : tie.Need-enum-told
 enum-told c = search needs
