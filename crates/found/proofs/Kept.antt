@@ -25,7 +25,7 @@ use Rattle.sizes.specs.declared.Block.{Block}
 use Rattle.counts.specs.Counts.{orientSent}
 use Rattle.sizes.specs.Sizes.{headOf}
 use Rattle.search.specs.Search.{Standing, histogramIn}
-use Rattle.search.specs.Steps.{Ready}
+use Rattle.search.proofs.Passed.{Ready}
 use Rattle.search.proofs.Zeros.{zeros-below}
 use Rattle.search.proofs.Lengths.{lines-are}
 use Rattle.search.proofs.Colors.{levelsIn, is-histogram, levels-ok}

@@ -19,9 +19,9 @@ use Rattle.sizes.specs.Known.{Known}
 use Rattle.search.specs.declared.Best.{Best}
 use Rattle.search.specs.declared.Palette.{Palette}
 use Rattle.search.specs.Search.{Standing, searched, histogramIn, foundIn, paletteBy}
-use Rattle.search.specs.Steps.{Ready, Stands, Written}
+use Rattle.search.specs.Steps.{Passed, Stands, Written}
 use Rattle.search.proofs.Lengths.{lines-are}
-use Rattle.search.proofs.Tries.{ready-with}
+use Rattle.search.proofs.Passed.{Ready, ready-of, passed-with}
 use Rattle.search.proofs.Colors.{levelsIn, levels-top, is-histogram}
 use Rattle.search.proofs.Kept.{Kept, kept-cells, kept-flags}
 use Rattle.search.proofs.Finds.{finds}
@@ -29,13 +29,14 @@ use Rattle.search.proofs.Finds.{finds}
 pub take-fits : (xs : List ℕ) (k room : ℕ) → k ≤ length xs → k ≤ room → length (take k xs) ≤ room
 take-fits xs k room p q = rw (length-take-le k xs p) q
 
-module _ {samples costs : List Float} {b : Block} {room lineRoom : ℕ} (ready : Ready samples costs b room lineRoom) where
-  -- 4,096 cells and 64 lines hold every map
-  pub ready-aside : (cells lines : ℕ) → cells ≡ 4096 → lines ≡ 64 → Ready samples costs b cells lines
-  ready-aside cells lines c l =
-      let small : b .width * b .height ≤ 64 * 64 = mul-le-mul (ready .wideMost) (ready .highMost) in
-      ready-with ready cells lines (omega (arith, small, c)) (omega (arith, l))
+-- 4,096 cells and 64 lines hold every map
+pub passed-aside : {samples costs : List Float} {b : Block} {room lineRoom : ℕ} → Passed samples costs b room lineRoom
+    → (cells lines : ℕ) → cells ≡ 4096 → lines ≡ 64 → Passed samples costs b cells lines
+passed-aside {b = b} p cells lines c l =
+    let small : b .width * b .height ≤ 64 * 64 = mul-le-mul (ready-of p .wideMost) (ready-of p .highMost) in
+    passed-with p cells lines (omega (arith, small, c)) (omega (arith, l))
 
+module _ {samples costs : List Float} {b : Block} {room lineRoom : ℕ} (ready : Ready samples costs b room lineRoom) where
   module _ {h : Histogram} (is : h ≡ histogramIn samples) (two : 2 ≤ h .n) (few : h .n ≤ 32) where
     pub known : (last : ℕ) (table : List Float) (cuts : List ℕ) → last ≡ min 8 (h .n) → TablesOf h last table cuts
         → Known costs b h table cuts

@@ -26,7 +26,7 @@ use Rattle.sizes.specs.declared.Block.{Block}
 use Rattle.sizes.proofs.Levels.{SizeTo}
 use Rattle.sizes.proofs.Parts.{centers-ok}
 use Rattle.search.specs.Search.{histogramIn}
-use Rattle.search.specs.Steps.{Ready}
+use Rattle.search.proofs.Passed.{Ready}
 
 -- the levels of a block, in ascending order
 abbrev pub levelsIn : List Float → List ℕ

@@ -26,7 +26,7 @@ use Rattle.sizes.specs.Sizes.{headOf, leastOf, leastRow, fewestLines, sizeOf}
 use Rattle.sizes.proofs.Levels.{SizeTo}
 use Rattle.sizes.proofs.Parts.{fewest-most}
 use Rattle.search.specs.Search.{histogramIn}
-use Rattle.search.specs.Steps.{Ready}
+use Rattle.search.proofs.Passed.{Ready}
 use Rattle.search.proofs.Errors.{error-narrow}
 use Rattle.search.proofs.Colors.{levelsIn, is-histogram, centers-count, levels-ok}
 

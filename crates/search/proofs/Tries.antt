@@ -27,7 +27,8 @@ use Rattle.sizes.specs.declared.Block.{Block}
 use Rattle.sizes.specs.declared.Size.{Size}
 use Rattle.search.specs.declared.Best.{Best}
 use Rattle.search.specs.Search.{Standing, judged, mapIn, tried}
-use Rattle.search.specs.Steps.{Ready, Stands}
+use Rattle.search.specs.Steps.{Passed, Stands}
+use Rattle.search.proofs.Passed.{Ready}
 use Rattle.search.proofs.Zeros.{zeros-below}
 use Rattle.search.proofs.Lengths.{lines-are, lines-most}
 
@@ -60,29 +61,11 @@ module _ (b : Block) (z : Size) (t : Bool) {best : Best} (error bits : Float) (c
 
 -- ---- what the map search asks
 -- buffers of the same lengths are as good
-pub still-ready : {samples costs : List Float} {b : Block} {room lineRoom : ℕ} (room' lineRoom' : ℕ)
-    → Ready samples costs b room lineRoom → room' ≡ room → lineRoom' ≡ lineRoom → Ready samples costs b room' lineRoom'
-still-ready room' lineRoom' r e f = rw (e, f) r
+pub still-passed : {samples costs : List Float} {b : Block} {room lineRoom : ℕ} (room' lineRoom' : ℕ)
+    → Passed samples costs b room lineRoom → room' ≡ room → lineRoom' ≡ lineRoom → Passed samples costs b room' lineRoom'
+still-passed room' lineRoom' p e f = rw (e, f) p
 
 module _ {samples costs : List Float} {b : Block} {room lineRoom : ℕ} (ready : Ready samples costs b room lineRoom) where
-  -- and so are others that hold every map of the block
-  pub ready-with : (cells lines : ℕ) → b .width * b .height ≤ cells → 64 ≤ lines → Ready samples costs b cells lines
-  ready-with cells lines c l = record {
-    wide = ready .wide;
-    wideMost = ready .wideMost;
-    high = ready .high;
-    highMost = ready .highMost;
-    deep = ready .deep;
-    deepMost = ready .deepMost;
-    count = ready .count;
-    weight = ready .weight;
-    priced = ready .priced;
-    sampled = ready .sampled;
-    room = c;
-    columns = omega (arith, ready .wideMost, l);
-    rows = omega (arith, ready .highMost, l);
-  }
-
   cost-plus : (i : ℕ) → NotNeg (getD costs i nan)
   cost-plus i = go (ltb i 301) refl
     where

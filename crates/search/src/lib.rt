@@ -14,7 +14,7 @@ ghost use Rattle.map_search.specs.Sound.{Built};
 ghost use Rattle.sizes.specs.Known.{Known};
 ghost use Rattle.search.specs.Search.{Standing, judged, mapIn, tried, triedBoth, searched, histogramIn, foundIn, refusedBy, Searches};
 ghost use Rattle.search.specs.Search.{roomsOk, largeOk, faultOf, levelsFault};
-ghost use Rattle.search.specs.Steps.{Ready, Stands, Written};
+ghost use Rattle.search.specs.Steps.{Passed, Stands, Written};
 
 // The answer: number 0 with the colours, their count, the orientation and the bit estimate, or a refusal with zeros.
 pub struct Palette {
@@ -188,7 +188,7 @@ fn map_in(
     cells: &mut [u8],
     lines: &mut [u8],
 ) -> MapResult
-    requires { ⌜ Ready (now samples) (now costs) b (b .width * b .height) 64 × (2 ≤ z .n) × (z .n ≤ 8) ⌝ }
+    requires { ⌜ Passed (now samples) (now costs) b (b .width * b .height) 64 × (2 ≤ z .n) × (z .n ≤ 8) ⌝ }
     requires { ⌜ (now cells ≡ replicate (b .width * b .height) 0)
         × (now lines ≡ replicate (linesOf transposed (b .width) (b .height)) 0) ⌝ }
     ensures { λ r. ⌜ Built (mapIn (now (samples .entry)) (now (costs .entry)) b z transposed bound) r
@@ -224,7 +224,7 @@ fn try_in(
     map: &mut [u8],
     flags: &mut [u8],
 ) -> Best
-    requires { ⌜ Ready (now samples) (now costs) b (length (now map)) (length (now flags)) × (2 ≤ z .n) × (z .n ≤ 8) ⌝ }
+    requires { ⌜ Passed (now samples) (now costs) b (length (now map)) (length (now flags)) × (2 ≤ z .n) × (z .n ≤ 8) ⌝ }
     requires { ⌜ (now cells ≡ replicate (b .width * b .height) 0)
         × (now lines ≡ replicate (linesOf transposed (b .width) (b .height)) 0) ⌝ }
     ensures { λ r. ⌜ ((s : Standing) → Stands s best (now (map .entry)) (now (flags .entry))
@@ -259,7 +259,7 @@ fn try_scan(
     map: &mut [u8],
     flags: &mut [u8],
 ) -> Best
-    requires { ⌜ Ready (now samples) (now costs) b (length (now map)) (length (now flags)) × (2 ≤ z .n) × (z .n ≤ 8) ⌝ }
+    requires { ⌜ Passed (now samples) (now costs) b (length (now map)) (length (now flags)) × (2 ≤ z .n) × (z .n ≤ 8) ⌝ }
     ensures { λ r. ⌜ ((s : Standing) → Stands s best (now (map .entry)) (now (flags .entry))
         → Stands (tried (now (samples .entry)) (now (costs .entry)) b z transposed s) r (now (map .exit)) (now (flags .exit))) ⌝ }
 {
@@ -290,7 +290,7 @@ fn try_size(
     map: &mut [u8],
     flags: &mut [u8],
 ) -> Best
-    requires { ⌜ Ready (now samples) (now costs) b (length (now map)) (length (now flags)) × (2 ≤ z .n) × (z .n ≤ 8) ⌝ }
+    requires { ⌜ Passed (now samples) (now costs) b (length (now map)) (length (now flags)) × (2 ≤ z .n) × (z .n ≤ 8) ⌝ }
     ensures { λ r. ⌜ ((s : Standing) → Stands s best (now (map .entry)) (now (flags .entry))
         → Stands (triedBoth (now (samples .entry)) (now (costs .entry)) b z s) r (now (map .exit)) (now (flags .exit))) ⌝ }
 {
@@ -313,7 +313,7 @@ fn best_of(
     flags: &mut [u8],
 ) -> Best
     requires { ⌜ Known (now costs) b h (now table) (now cuts)
-        × Ready (now samples) (now costs) b (length (now map)) (length (now flags)) ⌝ }
+        × Passed (now samples) (now costs) b (length (now map)) (length (now flags)) ⌝ }
     ensures { λ r. ⌜ Stands (searched (now (samples .entry)) (now (costs .entry)) b h) r (now (map .exit)) (now (flags .exit)) ⌝ }
 {
     let lbs = sizes::lbs_of(costs, b, h, table, cuts);
@@ -349,7 +349,7 @@ fn search_in(
     map: &mut [u8],
     flags: &mut [u8],
 ) -> Palette
-    requires { ⌜ Ready (now samples) (now costs) b (length (now map)) (length (now flags))
+    requires { ⌜ Passed (now samples) (now costs) b (length (now map)) (length (now flags))
         × (length (now cells) ≡ 4096) × (length (now lines) ≡ 64) ⌝ }
     requires { ⌜ (h ≡ histogramIn (now samples)) × (2 ≤ h .n) × (h .n ≤ 32) ⌝ }
     ensures { λ r. ⌜ Written (foundIn (now (samples .entry)) (now (costs .entry)) b)
@@ -384,7 +384,7 @@ fn search_levels(
     map: &mut [u8],
     flags: &mut [u8],
 ) -> Palette
-    requires { ⌜ Ready (now samples) (now costs) b (length (now map)) (length (now flags)) ⌝ }
+    requires { ⌜ Passed (now samples) (now costs) b (length (now map)) (length (now flags)) ⌝ }
     requires { ⌜ (h ≡ histogramIn (now samples)) × (2 ≤ h .n) × (h .n ≤ 32) ⌝ }
     ensures { λ r. ⌜ Written (foundIn (now (samples .entry)) (now (costs .entry)) b)
         (now (map .entry)) (now (map .exit)) (now (flags .entry)) (now (flags .exit)) r ⌝ }

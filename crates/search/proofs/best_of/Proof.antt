@@ -10,7 +10,7 @@ use borrow.Author.Needs.{needs}
 use Rattle.sizes.proofs.Levels.{SizeTo}
 use Rattle.sizes.proofs.Open.{opened}
 use Rattle.search.specs.declared.Best.{Best}
-use Rattle.search.proofs.Tries.{still-ready}
+use Rattle.search.proofs.Tries.{still-passed}
 use Rattle.search.proofs.Walk.{Bounds, Walking, walking-starts, walking-ends, size-known, walking-stops}
 use Rattle.search.proofs.Walk.{walking-goes-on, fewer-left}
 use Rattle.search.proofs.best_of.Statement.{statement}
@@ -102,7 +102,7 @@ try-size-requires c κs =
     let lengths = t .before .loop .inv in
     let size = known t in
     let is = c .before .before .size-of .ensures in
-    (still-ready _ _ (start (t .before) .pre .1) (lengths .0) (lengths .1), rw is (size .0), rw is (size .1))
+    (still-passed _ _ (start (t .before) .pre .1) (lengths .0) (lengths .1), rw is (size .0), rw is (size .1))
 
 array-write-left : tie.Need-array-write-left Inv-loop μ-loop
 array-write-left c =

@@ -1,4 +1,5 @@
 use denote.Ref.{now}
+use Rattle.search.proofs.Passed.{ready-of}
 use Rattle.search.proofs.Tries.{buildable, map-is}
 use borrow.Author.Needs.{needs}
 use Rattle.search.proofs.map_in.Statement.{statement}
@@ -14,9 +15,9 @@ build-map-requires : tie.Need-build-map-requires
 build-map-requires c κs =
     let scanned = c .before .before .before .before .before in
     let s = scanned .before .before .before .before .before in
-    let ready = s .pre .0 in
+    let passed = s .pre .0 in
     let zeros = s .pre .1 in
-    buildable (ready .0) (s .args .transposed) _ (ready .1) (ready .2) _ _ _ (scanned .scan-of .ensures) (zeros .0) (zeros .1)
+    buildable (ready-of (passed .0)) (s .args .transposed) _ (passed .1) (passed .2) _ _ _ (scanned .scan-of .ensures) (zeros .0) (zeros .1)
 
 same-length : tie.Need-same-length
 same-length c = search needs

@@ -6,8 +6,8 @@ use denote.Ref.{now}
 use lib.ListN.{length}
 use Rattle.sizes.specs.declared.Block.{Block}
 use Rattle.search.specs.Search.{levelsFault, searchNumber}
-use Rattle.search.specs.Steps.{Ready}
-use Rattle.search.proofs.Passed.{ready-of-zero, levels-of-zero}
+use Rattle.search.specs.Steps.{Passed}
+use Rattle.search.proofs.Passed.{ready-of, levels-of-zero}
 use Rattle.search.proofs.Answer.{refuses, answers, number-first, number-second}
 use borrow.Author.Needs.{needs}
 use Rattle.search.proofs.search.Statement.{statement}
@@ -20,9 +20,9 @@ abbrev start : tie.Else1 → tie.Start
 start c = c .before .before .before .before .before .before
 
 -- the tests 1 to 8 have passed
-ready : (c : tie.Else1) → let a = start c .args in
-    Ready (now (a .samples)) (now (a .costs)) (block (start c)) (length (now (a .map))) (length (now (a .flags)))
-ready c = ready-of-zero _ _ _ _ _ (sym (c .before .fault .ensures) ∙ c .if1 .left)
+passed : (c : tie.Else1) → let a = start c .args in
+    Passed (now (a .samples)) (now (a .costs)) (block (start c)) (length (now (a .map))) (length (now (a .flags)))
+passed c = record { zero = sym (c .before .fault .ensures) ∙ c .if1 .left }
 
 fault-requires : tie.Need-fault-requires
 fault-requires c κs = search needs
@@ -35,10 +35,10 @@ second : (c : tie.After-levels-fault) → let s = start (c .before .before) in
 second c =
     let s = start (c .before .before) in
     let a = s .args in
-    let passed = c .before .before in
+    let tested = c .before .before in
     let levels = c .levels-fault .ensures ∙ ap (λ h. levelsFault (h .n)) (c .before .histogram-of .ensures) in
     number-second (now (a .samples)) (now (a .costs)) (block s) (now (a .map)) (now (a .flags)) _
-    (passed .before .fault .ensures) _ levels (passed .if1 .left)
+    (tested .before .fault .ensures) _ levels (tested .if1 .left)
 
 refused-requires : tie.Need-refused-requires
 refused-requires c κs = search needs
@@ -55,7 +55,7 @@ returns c =
 
 histogram-of-requires : tie.Need-histogram-of-requires
 histogram-of-requires c κs =
-    let r = ready c in
+    let r = ready-of (passed c) in
     let few : start c .args .width * start c .args .height ≤ 64 * 64 = mul-le-mul (r .wideMost) (r .highMost) in
     (r .deep, r .deepMost, omega (arith, r .count), r .sampled)
 
@@ -77,7 +77,7 @@ search-levels-requires c κs =
     let g = c .before .before .before .before .before in
     let n = c .before .before .before in
     let few = levels-of-zero _ (sym (n .levels-fault .ensures) ∙ c .before .before .if2 .left) in
-    (ready g, (n .before .histogram-of .ensures, few .0, few .1))
+    (passed g, (n .before .histogram-of .ensures, few .0, few .1))
 
 same-length : tie.Need-same-length
 same-length c = search needs

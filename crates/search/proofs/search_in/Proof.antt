@@ -7,7 +7,8 @@ use lib.Dec.{lit<}
 use lib.ListN.{length}
 use Rattle.search.proofs.Lengths.{lines-most}
 use Rattle.search.proofs.Colors.{levelsIn, is-histogram}
-use Rattle.search.proofs.Aside.{take-fits, ready-aside, known, written-found, as-palette}
+use Rattle.search.proofs.Passed.{ready-of}
+use Rattle.search.proofs.Aside.{take-fits, passed-aside, known, written-found, as-palette}
 use borrow.Author.Needs.{needs}
 use Rattle.search.proofs.search_in.Statement.{statement}
 use Rattle.search.proofs.search_in.Tie as tie
@@ -26,7 +27,7 @@ abbrev best : tie.After-lines-of → tie.After-best-of
 best c = c .before .before .before .before .before .before .before .before .before .before .before .before
 
 few-cells : (c : tie.After-best-of) → start c .args .b .width * start c .args .b .height ≤ 4096
-few-cells c = mul-le-mul (start c .pre .0 .0 .wideMost) (start c .pre .0 .0 .highMost)
+few-cells c = mul-le-mul (ready-of (start c .pre .0 .0) .wideMost) (ready-of (start c .pre .0 .0) .highMost)
 
 -- they have as many places as before
 all-places : (c : tie.After-best-of) → length (cells c) ≡ 4096
@@ -37,18 +38,18 @@ all-lines c = c .best-of .kept .1 .1 .1 .1 .1 .1 .1 .0 ∙ start c .pre .0 .2
 
 cells-fit : (c : tie.After-best-of) → let a = start c .args in
     (a .b .width * a .b .height ≤ length (cells c)) × (a .b .width * a .b .height ≤ length (now (a .map)))
-cells-fit c = (rw (all-places c) (few-cells c), start c .pre .0 .0 .room)
+cells-fit c = (rw (all-places c) (few-cells c), ready-of (start c .pre .0 .0) .room)
 
 lines-fit : (c : tie.After-lines-of)
     → (c .lines-of .result ≤ length (lines (best c))) × (c .lines-of .result ≤ length (now (start (best c) .args .flags)))
 lines-fit c =
     let a = start (best c) .args in
-    let ready = start (best c) .pre .0 .0 in
+    let r = ready-of (start (best c) .pre .0 .0) in
     let t = best c .best-of .result .transposed in
     let w = a .b .width in
     let h = a .b .height in (
-      rw (all-lines (best c)) (lines-most t w h 64 (c .lines-of .ensures) (ready .wideMost) (ready .highMost)),
-      lines-most t w h (length (now (a .flags))) (c .lines-of .ensures) (ready .columns) (ready .rows),
+      rw (all-lines (best c)) (lines-most t w h 64 (c .lines-of .ensures) (r .wideMost) (r .highMost)),
+      lines-most t w h (length (now (a .flags))) (c .lines-of .ensures) (r .columns) (r .rows),
     )
 
 last-size-requires : tie.Need-last-size-requires
@@ -59,7 +60,7 @@ tables-of-requires c κs =
     let s = c .before .before .before .before .before .before .before in
     let levels = s .pre .1 in (
       rw (c .last-size .ensures) (min-le-left 8 (s .args .h .n)),
-      (levelsIn (now (s .args .samples)), is-histogram (s .pre .0 .0) (levels .0) (levels .2)),
+      (levelsIn (now (s .args .samples)), is-histogram (ready-of (s .pre .0 .0)) (levels .0) (levels .2)),
     )
 
 best-of-requires : tie.Need-best-of-requires
@@ -68,8 +69,8 @@ best-of-requires c κs =
     let pre = last .before .before .before .before .before .before .before .pre in
     let levels = pre .1 in
     let tables = c .before .before .before .before .before .before .tables-of .ensures in (
-      known (pre .0 .0) (levels .0) (levels .1) (levels .2) _ _ _ (last .last-size .ensures) tables,
-      ready-aside (pre .0 .0) _ _ (pre .0 .1) (pre .0 .2),
+      known (ready-of (pre .0 .0)) (levels .0) (levels .1) (levels .2) _ _ _ (last .last-size .ensures) tables,
+      passed-aside (pre .0 .0) _ _ (pre .0 .1) (pre .0 .2),
     )
 
 mul-copy-front : tie.Need-mul-copy-front
@@ -106,7 +107,7 @@ returns c =
     let levels = pre .1 in
     let cells-copied = c .before .before .before .before .before .before .before .before .before .before .copy-front .ensures in
     let lines-copied = c .before .before .before .before .copy-front2 .ensures in
-    written-found (pre .0 .0) (levels .0) (levels .1) (levels .2) (t .best-of .ensures) _ _ _ _ _ cells-copied lines-copied
+    written-found (ready-of (pre .0 .0)) (levels .0) (levels .1) (levels .2) (t .best-of .ensures) _ _ _ _ _ cells-copied lines-copied
     (l .lines-of .ensures) (take-fits _ _ _ (cells-fit t .0) (cells-fit t .1))
     (take-fits _ _ _ (lines-fit l .0) (lines-fit l .1)) _ (as-palette (t .best-of .result))
 

@@ -7,7 +7,8 @@ use Rattle.map_search.specs.declared.MapResult.{MapResult}
 use Rattle.map_search.specs.declared.MapResult.the-variants.{Found, Beaten}
 use Rattle.search.specs.Search.{Standing, judged, tried}
 use Rattle.search.specs.Steps.{Stands}
-use Rattle.search.proofs.Tries.{ready-with, room-for, tried-is}
+use Rattle.search.proofs.Passed.{ready-of, passed-with}
+use Rattle.search.proofs.Tries.{room-for, tried-is}
 use borrow.Author.Needs.{needs}
 use Rattle.search.proofs.try_in.Statement.{statement}
 use Rattle.search.proofs.try_in.Tie as tie
@@ -35,8 +36,8 @@ is c s S r told =
 map-in-requires : tie.Need-map-in-requires
 map-in-requires c κs =
     let s = c .before .before .before .before .before .before .before .before in
-    let ready = s .pre .0 in
-    ((ready-with (ready .0) _ 64 (omega arith) (omega arith), ready .1, ready .2), s .pre .1)
+    let passed = s .pre .0 in
+    ((passed-with (passed .0) _ 64 (omega arith) (omega arith), passed .1, passed .2), s .pre .1)
 
 enum-told : tie.Need-enum-told
 enum-told c = search needs
@@ -49,7 +50,7 @@ judge-requires c κs =
     let built = c .before .before .before .before .before .before .before .before .before .before .before in
     let s = start built in
     let kept = built .map-in .kept .1 .1 .1 .1 .1 .1 in
-    room-for (s .pre .0 .0) (s .args .transposed) _ _ (cells built) (lines built) (s .pre .1 .0) (s .pre .1 .1)
+    room-for (ready-of (s .pre .0 .0)) (s .args .transposed) _ _ (cells built) (lines built) (s .pre .1 .0) (s .pre .1 .1)
     (kept .0) (kept .1 .0)
 
 same-length : tie.Need-same-length

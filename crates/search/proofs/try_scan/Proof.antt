@@ -1,30 +1,34 @@
 use mathlib.Core.Path.{sym, ap, _∙_}
 use lib.Seq.{length-take-le}
 use Prim.Native.Nat.{ℕ, _*_, _≤_}
-use native.Mathlib.Nat.{mul-le-mul}
+use native.Mathlib.Nat.{mul-le-mul, lt-of-le-of-lt}
+use lib.Dec.{lit<}
 use lib.ListN.{replicate}
 use Rattle.search.proofs.Zeros.{take-zeros}
 use Rattle.search.proofs.Lengths.{lines-most}
 use borrow.Author.Needs.{needs}
+use Rattle.search.proofs.Passed.{ready-of}
 use Rattle.search.proofs.try_scan.Statement.{statement}
 use Rattle.search.proofs.try_scan.Tie as tie
 
 -- the cells and the lines are at most as many as the buffers' places
 few-cells : (s : tie.Start) → s .args .b .width * s .args .b .height ≤ 4096
-few-cells s = mul-le-mul (s .pre .0 .wideMost) (s .pre .0 .highMost)
+few-cells s =
+    let r = ready-of (s .pre .0) in
+    mul-le-mul (r .wideMost) (r .highMost)
 
 few-lines : (c : tie.After-lines-of) → c .lines-of .result ≤ 64
 few-lines c =
     let s = c .before .before .before .before .before in
     let b = s .args .b in
-    let ready = s .pre .0 in
-    lines-most (s .args .transposed) (b .width) (b .height) 64 (c .lines-of .ensures) (ready .wideMost) (ready .highMost)
+    let r = ready-of (s .pre .0) in
+    lines-most (s .args .transposed) (b .width) (b .height) 64 (c .lines-of .ensures) (r .wideMost) (r .highMost)
 
 lines-of-requires : tie.Need-lines-of-requires
 lines-of-requires c κs = search needs
 
 mul-cells : tie.Need-mul-cells
-mul-cells c = search needs
+mul-cells c = record { fits = lt-of-le-of-lt (few-cells (c .before .before .before .before .before .before)) (lit< tt) }
 
 array-borrow-prefix-cells : tie.Need-array-borrow-prefix-cells
 array-borrow-prefix-cells c = few-cells (c .before .before .before .before .before .before)

@@ -1,6 +1,6 @@
 use Rattle.lists.proofs.Choice.{fails, holds}
 use Rattle.search.specs.Search.{triedBoth}
-use Rattle.search.proofs.Tries.{still-ready}
+use Rattle.search.proofs.Tries.{still-passed}
 use borrow.Author.Needs.{needs}
 use Rattle.search.proofs.try_size.Statement.{statement}
 use Rattle.search.proofs.try_size.Tie as tie
@@ -26,9 +26,9 @@ returns c =
 try-scan-requires-2 : tie.Need-try-scan-requires-2
 try-scan-requires-2 c κs =
     let plain = c .before .before .before .before .before .before .before .before in
-    let ready = plain .before .before .before .before .before .before .before .pre in
+    let passed = plain .before .before .before .before .before .before .before .pre in
     let kept = plain .try-scan .kept .1 .1 .1 .1 .1 .1 in
-    (still-ready _ _ (ready .0) (kept .0) (kept .1 .0), ready .1, ready .2)
+    (still-passed _ _ (passed .0) (kept .0) (kept .1 .0), passed .1, passed .2)
 
 same-length-3 : tie.Need-same-length-3
 same-length-3 c = search needs
