@@ -13,8 +13,8 @@ use Rattle.lists.specs.Counted.{allIn}
 use Rattle.lists.proofs.Choice.{and-r}
 use Rattle.context.specs.Map.{cell}
 use Rattle.context.specs.Order.{choose, byThree, around, orderOf}
-use Rattle.context.specs.Context.{used, contextOk, answered, refused, contextOf}
-use Rattle.context.specs.Parts.{usable, neighbourAt, oneAt, threeAt}
+use Rattle.context.specs.Context.{used, usable, contextOk, answered, refused, contextOf}
+use Rattle.context.specs.Parts.{neighbourAt, oneAt, threeAt}
 use Rattle.context.specs.declared.Context.{Context}
 use Rattle.context.specs.declared.Index.{Index}
 use Rattle.context.specs.declared.Neighbour.{Neighbour}

@@ -15,10 +15,13 @@ used s zero (suc x) = x ∷ []
 used s (suc y) zero = (y * s) ∷ []
 used s (suc y) (suc x) = (suc y * s + x) ∷ (y * s + suc x) ∷ (y * s + x) ∷ []
 
+-- place p stands in the map and has an index below n
+abbrev pub usable : List ℕ → ℕ → ℕ → Bool
+usable map n p = ltb p (length map) && ltb (getD map p 0) n
+
 -- not at (0,0), x below the stride, n from 2 to 8, each used neighbour within the map and below n
 unfoldable pub contextOk : List ℕ → ℕ → ℕ → ℕ → ℕ → Bool
-contextOk map s y x n =
-    ltb 0 (y + x) && ltb x s && within 2 8 n && allIn (λ p. ltb p (length map) && ltb (getD map p 0) n) (used s y x)
+contextOk map s y x n = ltb 0 (y + x) && ltb x s && within 2 8 n && allIn (usable map n) (used s y x)
 
 -- a context with its order in eight places: those past n are 0
 unfoldable pub answered : Around → ℕ → Context

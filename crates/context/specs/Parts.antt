@@ -1,12 +1,11 @@
 -- What the steps of `color_ctx` answer.
 use Prim.Native.Nat.{ℕ}
-use mathlib.Core.Bool.{Bool, cond, _&&_}
+use mathlib.Core.Bool.{cond}
 use mathlib.Core.List.{List, [], _∷_}
-use lib.Dec.{ltb}
 use lib.ListN.{length, getD}
 use Rattle.lists.specs.Counted.{allIn}
 use Rattle.context.specs.Order.{Around, byThree}
-use Rattle.context.specs.Context.{answered, refused}
+use Rattle.context.specs.Context.{usable, answered, refused}
 use Rattle.context.specs.declared.Context.{Context}
 use Rattle.context.specs.declared.Near.{Near}
 use Rattle.context.specs.declared.Neighbour.{Neighbour}
@@ -16,10 +15,6 @@ use Rattle.context.specs.declared.Neighbour.the-variants.{Color, Nothing
 abbrev pub held : Around → Near
 held a =
     record { ctx = a .ctx; count = length (a .firsts); first = getD (a .firsts) 0 0; second = getD (a .firsts) 1 0; third = getD (a .firsts) 2 0 }
-
--- place p stands in the map and has an index below n
-abbrev pub usable : List ℕ → ℕ → ℕ → Bool
-usable map n p = ltb p (length map) && ltb (getD map p 0) n
 
 unfoldable pub neighbourAt : List ℕ → ℕ → ℕ → Neighbour
 neighbourAt map n p = cond (usable map n p) (Color (record { 0 = getD map p 0 })) Nothing

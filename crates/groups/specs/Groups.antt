@@ -27,8 +27,7 @@ between p i j = sub binary64 (getD p j nan) (getD p i nan)
 module _ (pw ps pq : List Float) where
   -- of the levels i .. j: q - s * s / w
   abbrev pub costOf : ℕ → ℕ → Float
-  costOf i j =
-      sub binary64 (between pq i j) (div binary64 (mul binary64 (between ps i j) (between ps i j)) (between pw i j))
+  costOf i j = sub binary64 (between pq i j) (div binary64 (mul binary64 (between ps i j) (between ps i j)) (between pw i j))
 
 -- ---- the programme
 -- what stands, b, or the later cut at i: that only if it is strictly cheaper
@@ -39,8 +38,7 @@ module _ (pw ps pq : List Float) where
   -- the first j levels: of the m cuts k, k + 1, .. the first of the cheapest; row has the cost of the levels before a cut
   unfoldable pub firstOf : (ℕ → Float) → ℕ → ℕ → ℕ → Best
   firstOf row k j zero = record { cost = inf false; cut = k }
-  firstOf row k j (suc m) =
-      cheaper (firstOf row k j m) (add binary64 (row (k + m)) (costOf pw ps pq (k + m) j)) (k + m)
+  firstOf row k j (suc m) = cheaper (firstOf row k j m) (add binary64 (row (k + m)) (costOf pw ps pq (k + m) j)) (k + m)
 
   abbrev pub bestOf : (ℕ → Float) → ℕ → ℕ → Best
   bestOf row k j = firstOf row k j (j - k)

@@ -12,13 +12,17 @@ use lib.Ieee.{Float, inf, fin, Format, prec, emax, low, up, down, round, sum, ad
 use lib.Ieee.{unlike, ofBits}
 use lib.Ieee.Fits.{down-pos}
 use lib.Ieee.Exact.{HasValue, round-exact}
-use Rattle.ieee.specs.Bounds.{Under, Within, Rep}
+use Rattle.ieee.specs.Bounds.{Under, Within}
 use Rattle.ieee.specs.Numbers.{nat}
 use Rattle.ieee.proofs.Fractions.{downs-pos, le-whole}
 use Rattle.ieee.proofs.Signs.{add-not-neg, square-not-neg, value-not-neg, not-neg-of-test}
 use Rattle.ieee.proofs.Signs.{zero-bits}
 use Rattle.ieee.proofs.Numbers.{nat-val}
 use Rattle.ieee.proofs.Grows.{Grows, round-grows, grows-of-le}
+
+-- the format holds the number A
+abbrev pub Rep : Format → ℕ → Type 0
+Rep f A = HasValue (round f false A 1) false A 1
 
 -- ---- where a bound comes from
 pub value-under : (x : Float) (s : Bool) (a c A : ℕ) → 0 < c → HasValue x s a c → a ≤ A * c → Under x A

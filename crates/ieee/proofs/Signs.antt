@@ -1,7 +1,7 @@
 -- Signs through rounding, sums and products: what is not negative stays so.
 use mathlib.Core.Path.{_≡_, refl, sym}
 use mathlib.Core.Bool.{Bool, true, false, _&&_, _||_, cond, true≢false}
-use mathlib.Core.Logic.{inl, inr}
+use mathlib.Core.Logic.{_⊎_, inl, inr}
 use Prim.Native.Nat.{ℕ, zero, suc, _+_, _-_, _*_, _^_, _≤_, _<_}
 use native.Mathlib.Nat.{zero-mul, mul-zero, zero-lt-suc, eq-of-mul-eq-mul-right}
 use native.Mathlib.Omega.{arith}
@@ -13,8 +13,12 @@ use lib.Ieee.Fits.{up-pos, and-l}
 use lib.Ieee.Exact.{HasValue}
 use lib.Ieee.Scale.{round-same}
 use borrow.Author.Tests.{ltb-false, le-ltb}
-use Rattle.ieee.specs.Bounds.{Plus, NotNeg}
+use Rattle.ieee.specs.Bounds.{NotNeg}
 use Rattle.ieee.proofs.Fractions.{downs-pos}
+
+-- the sign is plus, or the number is 0
+abbrev pub Plus : Bool → ℕ → Type 0
+Plus s m = (s ≡ false) ⊎ (m ≡ 0)
 
 -- x with the sign s
 abbrev pub resign : Bool → Float → Float

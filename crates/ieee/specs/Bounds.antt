@@ -1,20 +1,15 @@
 -- The sign of a float, and bounds by whole numbers.
 use mathlib.Core.Path.{_≡_}
-use mathlib.Core.Bool.{Bool, false}
+use mathlib.Core.Bool.{false}
 use mathlib.Core.Logic.{_⊎_}
 use Prim.Native.Nat.{ℕ, _*_, _≤_}
-use lib.Ieee.{Float, nan, inf, fin, Format, up, down, round}
-use lib.Ieee.Exact.{HasValue}
+use lib.Ieee.{Float, nan, inf, fin, up, down}
 
--- the sign is plus, or the number is 0
-abbrev pub Plus : Bool → ℕ → Type 0
-Plus s m = (s ≡ false) ⊎ (m ≡ 0)
-
--- x is not below zero: -0 is in, and so is nan
+-- x is not below zero: its sign is plus or it is 0, so -0 is in; and so is nan
 abbrev pub NotNeg : Float → Type 0
 NotNeg nan = Unit {0}
 NotNeg (inf s) = s ≡ false
-NotNeg (fin s m e) = Plus s m
+NotNeg (fin s m e) = (s ≡ false) ⊎ (m ≡ 0)
 
 -- x is finite, and at most A in size, whatever its sign
 abbrev pub Under : Float → ℕ → Type 0
@@ -25,7 +20,3 @@ Under (fin s m e) A = m * up e ≤ A * down e
 -- x is finite, not below zero, and at most A
 abbrev pub Within : Float → ℕ → Type 0
 Within x A = Under x A × NotNeg x
-
--- the format holds the number A
-abbrev pub Rep : Format → ℕ → Type 0
-Rep f A = HasValue (round f false A 1) false A 1

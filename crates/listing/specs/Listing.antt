@@ -18,8 +18,7 @@ use Rattle.listing.specs.declared.Listed.{Listed}
 
 -- all its words, from size to map
 unfoldable pub callList : ℕ → ℕ → ℕ → List ℕ → Palette → List ℕ
-callList w h bd cache p =
-    colorWords bd cache (p .colors) ++ mapWords (length (p .colors)) (p .transposed) (p .flags) (p .map) w h
+callList w h bd cache p = colorWords bd cache (p .colors) ++ mapWords (length (p .colors)) (p .transposed) (p .flags) (p .map) w h
 
 -- 1, 2, 11 to 15, then 16: the room is too small for the list
 unfoldable pub listNumber : ℕ → ℕ → ℕ → List ℕ → Palette → ℕ → ℕ

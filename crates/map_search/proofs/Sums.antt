@@ -8,8 +8,8 @@ use lib.Dec.{lit≤, lit<}
 use lib.Pow.{pow-mono, shl-lt}
 use lib.Ieee.{Float, binary32, add, sub}
 use lib.Ieee.Back.{round-whole}
-use Rattle.ieee.specs.Bounds.{Under, Rep, Within}
-use Rattle.ieee.proofs.Bounds.{rep-scaled, sub-under, under-mono, add-within, square-within}
+use Rattle.ieee.specs.Bounds.{Under, Within}
+use Rattle.ieee.proofs.Bounds.{Rep, rep-scaled, sub-under, under-mono, add-within, square-within}
 use Rattle.cells.specs.Cell.{square}
 
 -- f32 holds k * 2 ^ j

@@ -40,11 +40,9 @@ distLine samples colours s l g (suc k) =
 
 -- a copy of the line before; row is the flag's cost
 abbrev pub copiedBy : List Float → List Float → Scan → List ℕ → ℕ → Float → Choice
-copiedBy samples colours s m l row = record {
-  cost = record { dist = distLine samples colours s l (λ a. cellIn m s (l - 1) a) (s .len); rate = row };
-  flag = 2;
-  index = 0;
-}
+copiedBy samples colours s m l row =
+    let cost : Cost = record { dist = distLine samples colours s l (λ a. cellIn m s (l - 1) a) (s .len); rate = row } in
+    record { cost = cost; flag = 2; index = 0 }
 
 -- the flag's cost under its context
 abbrev pub rowCost : List Float → ℕ → ℕ → Float
@@ -90,14 +88,10 @@ module _ (samples costs colours : List Float) (n : ℕ) (lambda : Float) (s : Sc
   copied m l ctx = copiedBy samples colours s m l (rowCost costs ctx 2)
 
   abbrev pub constant : List ℕ → ℕ → ℕ → ℕ → Choice
-  constant m l ctx c = record {
-    cost = record {
-      dist = distLine samples colours s l (λ a. c) (s .len);
-      rate = add binary32 (rowCost costs ctx 1) (getD (ratesAt m l 0) (rankOf (aroundAt m l 0) n c) nan);
-    };
-    flag = 1;
-    index = c;
-  }
+  constant m l ctx c =
+      let rate = add binary32 (rowCost costs ctx 1) (getD (ratesAt m l 0) (rankOf (aroundAt m l 0) n c) nan) in
+      let cost : Cost = record { dist = distLine samples colours s l (λ a. c) (s .len); rate = rate } in
+      record { cost = cost; flag = 1; index = c }
 
   abbrev pub own : List ℕ → ℕ → ℕ → Choice
   own m l ctx = record { cost = cellsOf m l (rowCost costs ctx 0) (s .len) .cost; flag = 0; index = 0 }

@@ -25,11 +25,9 @@ module _ (samples costs colours : List Float) (n : ℕ) (lambda : Float) (s : Sc
 
 -- the constant lines as the code has them: by the distances from each colour and the first cell's costs by rank, where v comes first
 abbrev pub constantBy : List Float → List Float → ℕ → Float → ℕ → Choice
-constantBy dists rates v row c = record {
-  cost = record { dist = getD dists c nan; rate = add binary32 row (getD rates (rankBy c v) nan) };
-  flag = 1;
-  index = c;
-}
+constantBy dists rates v row c =
+    let cost : Cost = record { dist = getD dists c nan; rate = add binary32 row (getD rates (rankBy c v) nan) } in
+    record { cost = cost; flag = 1; index = c }
 
 unfoldable pub constantsBy : List Float → List Float → ℕ → Float → ℕ → ℕ → List Choice
 constantsBy dists rates v row c zero = []

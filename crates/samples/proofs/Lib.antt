@@ -3,3 +3,4 @@ pub mod State
 pub mod Halving
 pub mod Rounding
 pub mod Ranges
+pub mod Examples

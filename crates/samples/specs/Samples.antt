@@ -1,7 +1,6 @@
 -- Which lambdas, costs and samples are within their ranges, and the level of a sample.
-use mathlib.Core.Path.{_≡_, refl}
 use mathlib.Core.Bool.{Bool, true, _&&_}
-use mathlib.Core.List.{List, [], _∷_, map}
+use mathlib.Core.List.{List, [], _∷_}
 use Prim.Native.Nat.{ℕ, _+_, _-_, _*_, _/_, _^_}
 use lib.Dec.{eqb}
 use lib.ListN.{length}
@@ -33,9 +32,3 @@ samplesOk bd samples = allInRange (2 ^ bd - 1) samples
 -- x is num / den in size: rounded half away from zero, in whole numbers
 abbrev pub levelOf : Float → ℕ
 levelOf x = (2 * num x + den x) / (2 * den x)
-
--- 0.49999997, 0.5, -0.0 and 4094.5
-examples : map levelOf (map (ofBits binary32) (0x3eff_ffff ∷ 0x3f00_0000 ∷ 0x8000_0000 ∷ 0x457f_e800 ∷ []))
-    ≡ 0 ∷ 1 ∷ 0 ∷ 4095 ∷ []
-unfolding ofBits
-examples = refl

@@ -10,9 +10,9 @@ use lib.Dec.{lit≤, lit<}
 use lib.Ieee.{Float, binary64, add, lt, ofBits}
 use lib.Ieee.Back.{round-whole}
 use Rattle.lists.proofs.Choice.{either-way}
-use Rattle.ieee.specs.Bounds.{Under, Rep}
+use Rattle.ieee.specs.Bounds.{Under}
 use Rattle.ieee.proofs.Numbers.{nat-is}
-use Rattle.ieee.proofs.Bounds.{round-le, add-under, sub-under, under-lt, under-mono}
+use Rattle.ieee.proofs.Bounds.{Rep, round-le, add-under, sub-under, under-lt, under-mono}
 use Rattle.samples.specs.Narrow.{narrowOf}
 use Rattle.groups.specs.declared.Best.{Best}
 use Rattle.groups.specs.declared.Histogram.{Histogram}

@@ -5,8 +5,8 @@ use mathlib.Core.Bool.{false}
 use Prim.Native.Nat.{ℕ, _+_}
 use lib.Ieee.{Float, inf, fin, binary64, add, lt}
 use Rattle.lists.proofs.Choice.{either-way}
-use Rattle.ieee.specs.Bounds.{Under, Rep}
-use Rattle.ieee.proofs.Bounds.{add-under}
+use Rattle.ieee.specs.Bounds.{Under}
+use Rattle.ieee.proofs.Bounds.{Rep, add-under}
 use Rattle.groups.specs.declared.Best.{Best}
 use Rattle.groups.specs.Groups.{cheaper}
 

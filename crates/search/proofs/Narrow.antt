@@ -10,8 +10,8 @@ use lib.Ieee.Fits.{down-pos}
 use lib.Ieee.Positive.{num, den, den-pos}
 use borrow.Author.Tests.{lt-ltb}
 use Rattle.lists.proofs.Choice.{either-way}
-use Rattle.ieee.specs.Bounds.{Under, Rep}
-use Rattle.ieee.proofs.Bounds.{round-le, rep-scaled}
+use Rattle.ieee.specs.Bounds.{Under}
+use Rattle.ieee.proofs.Bounds.{Rep, round-le, rep-scaled}
 use Rattle.samples.specs.Narrow.{narrowOf}
 
 below-40 : (x : Float) (A : ℕ) → Under x A → A < 2 ^ 40 → lt x (ofBits binary64 0x4270_0000_0000_0000) ≡ true

@@ -30,11 +30,9 @@ pub record Standing : Type 0 where
   pub flags : List ℕ
 
 abbrev pub none : Standing
-none = record {
-  best = record { total = inf false; n = 0; colors = replicate 8 0; transposed = false; bits = ofBits binary32 0 };
-  map = [];
-  flags = [];
-}
+none =
+    let best : Best = record { total = inf false; n = 0; colors = replicate 8 0; transposed = false; bits = ofBits binary32 0 } in
+    record { best = best; map = []; flags = [] }
 
 -- what stands after a map of size z: a found one only if its total is strictly lower
 abbrev pub judged : Block → Size → Bool → Standing → List ℕ → List ℕ → MapResult → Standing

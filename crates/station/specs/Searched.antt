@@ -14,8 +14,7 @@ use Rattle.search.specs.Search.{foundIn, answerOf}
 abbrev pub fieldsOf : ℕ → List ℕ → Bool → List ℕ
 fieldsOf n colors transposed = n ∷ (colors ++ (bit transposed ∷ []))
 
-pub record SearchesTo (samples costs : List Float) (b : Block) (map₀ map flags₀ flags found : List ℕ) (bits : Float) (r : ℕ)
-    : Type 0 where
+pub record SearchesTo (samples costs : List Float) (b : Block) (map₀ map flags₀ flags found : List ℕ) (bits : Float) (r : ℕ) : Type 0 where
   pub number : r ≡ answerOf samples costs b (length map₀) (length flags₀) .number
   pub fields : let p = answerOf samples costs b (length map₀) (length flags₀) in
       found ≡ fieldsOf (p .n) (p .colors) (p .transposed)
