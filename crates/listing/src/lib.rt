@@ -121,7 +121,7 @@ fn copy_words(from: &[u32], count: usize, to: &mut [u32])
     }
 }
 
-// The answer for a list that was made aside: its words go to the front where there is room for them, else nothing is written.
+// The answer for a list that was made aside, so that no word of it is written where the room is too small.
 fn deliver(listed: Listed, aside: &[u32], words: &mut [u32]) -> Listed
     requires { ⌜ listed .count ≤ length (now aside) ⌝ }
     ensures { λ r. ⌜ r ≡ cond (leb (listed .count) (length (now (words .entry)))) listed (refusedBy 16) ⌝ }
@@ -138,7 +138,7 @@ fn deliver(listed: Listed, aside: &[u32], words: &mut [u32]) -> Listed
     listed
 }
 
-// As `list`, with room for any list aside.
+// As `list`, with the room aside for any list lent: an array held here would make long proofs.
 fn list_by(
     width: usize,
     height: usize,

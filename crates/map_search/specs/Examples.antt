@@ -55,3 +55,10 @@ unfolding examples trailingZeros ofBits ofFields odd round units size span climb
     uniformBits ceilLog2 leastBits elem cell choose byThree around others orderOf place rankOf cheapest firstCheapest squaresOf ratesOf ranked chosen
     fill distLine cellAt cellsOf constants candidates lineOf putLine restOf
 examples-hold = refl
+
+-- a bound of 0 is reached with the first line
+pub beaten : searched (ten ∷ twenty ∷ ten ∷ twenty ∷ []) 2 2 true zero32 zero32 .result ≡ Beaten
+unfolding trailingZeros ofBits ofFields odd round units size span climb add sub neg sum mul lt le eq ofInt
+    uniformBits ceilLog2 leastBits elem cell choose byThree around others orderOf place rankOf cheapest firstCheapest squaresOf ratesOf ranked chosen
+    fill distLine cellAt cellsOf constants candidates lineOf putLine restOf
+beaten = refl

@@ -1,14 +1,14 @@
 -- The number 0: every test of the search has passed. Assumes nothing.
 use mathlib.Core.Path.{_≡_, refl}
-use mathlib.Core.Bool.{Bool, true, false, cond, not}
+use mathlib.Core.Bool.{Bool, true, false, cond}
 use mathlib.Core.List.{List}
-use Prim.Native.Nat.{ℕ, suc, _*_, max, _≤_}
+use Prim.Native.Nat.{ℕ, _*_, max, _≤_}
 use native.Mathlib.Omega.{arith}
-use borrow.Author.Tests.{eqb-true, eqb-false, ltb-false, leb-true, le-leb, not-false}
+use borrow.Author.Tests.{eqb-true, eqb-false, ltb-false, leb-true, le-leb}
 use lib.Dec.{eqb, ltb, leb}
 use lib.ListN.{length}
 use lib.Ieee.{Float}
-use Rattle.lists.proofs.Choice.{passed, and-l, and-r}
+use Rattle.lists.proofs.Choice.{passed, held, and-l, and-r}
 use Rattle.lists.proofs.Counted.{within-at}
 use Rattle.accept.specs.Accepted.{sidesOk, depthOk}
 use Rattle.accept.proofs.Accepted.{sides-at}
@@ -40,12 +40,6 @@ no-fault fault next e = go (eqb fault 0) refl e
     go : (t : Bool) → eqb fault 0 ≡ t → cond t next fault ≡ 0 → (fault ≡ 0) × (next ≡ 0)
     go true z e = (eqb-true fault 0 z, e)
     go false z e = absurd (eqb-false fault 0 z e)
-
--- a test that refuses where it fails has passed, and what follows it gives 0
-held : (t : Bool) (k x : ℕ) → cond (not t) (suc k) x ≡ 0 → (t ≡ true) × (x ≡ 0)
-held t k x e =
-    let p = passed (not t) k x e in
-    (not-false t (p .0), p .1)
 
 -- 1 to 8
 module _ {samples costs : List Float} {b : Block} {cells lines : ℕ} (p : Passed samples costs b cells lines) where
