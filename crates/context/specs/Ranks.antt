@@ -2,6 +2,7 @@
 use Prim.Native.Nat.{ℕ, _+_, _-_, _*_, _≤_, _<_}
 use mathlib.Core.Path.{_≡_}
 use mathlib.Core.Bool.{cond}
+use mathlib.Core.Logic.{_⊎_}
 use mathlib.Core.List.{List, [], _∷_}
 use lib.Dec.{eqb, ltb}
 use lib.ListN.{length, getD}
@@ -22,3 +23,8 @@ pub record Coded (map : List ℕ) (w : ℕ) (codes : List ℕ) : Type 0 where
   pub room : length map ≤ length codes
   pub cells : (p : ℕ) → w < p → p < length map
       → getD codes p 0 ≡ codeBy (getD map (p - 1) 0) (getD map (p - w) 0) (getD map (p - w - 1) 0) (getD map p 0)
+
+-- such codes were written, and no other place
+pub record Recoded (map : List ℕ) (w : ℕ) (before after : List ℕ) : Type 0 where
+  pub coded : Coded map w after
+  pub kept : (p : ℕ) → (p ≤ w) ⊎ (length map ≤ p) → getD after p 0 ≡ getD before p 0

@@ -10,7 +10,7 @@ ghost use Rattle.lists.specs.Counted.{elem, bit};
 ghost use Rattle.context.specs.Map.{linesOf, lengthOf};
 ghost use Rattle.context.specs.Order.{byThree};
 ghost use Rattle.context.specs.Context.{answered, refused, contextOf};
-ghost use Rattle.context.specs.Ranks.{rankFrom, codeBy, Coded};
+ghost use Rattle.context.specs.Ranks.{rankFrom, codeBy, Recoded};
 ghost use Rattle.context.specs.Parts.{held, neighbourAt, oneAt, threeAt};
 
 // An index: the place of a colour in the palette, as the map holds it.
@@ -320,7 +320,7 @@ pub fn rank_in(code: u8) -> Rank
 pub fn code_cells(map: &[u8], w: usize, codes: &mut [u8])
     requires { ⌜ (w ≤ 64) × (length (now map) ≤ length (now codes)) ⌝ }
     requires { ⌜ ((i : ℕ) → i < length (now map) → getD (now map) i 0 < 8) ⌝ }
-    ensures { λ r. ⌜ Coded (now (map .entry)) w (now (codes .exit)) ⌝ }
+    ensures { λ r. ⌜ Recoded (now (map .entry)) w (now (codes .entry)) (now (codes .exit)) ⌝ }
 {
     let mut p = w + 1;
     while p < map.len() {

@@ -11,7 +11,7 @@ ghost use Rattle.lists.specs.Counted.{bit, ascending, upTo};
 ghost use Rattle.lists.specs.Written.{written};
 ghost use Rattle.context.specs.Map.{rowAt, colAt, linesOf, lengthOf};
 ghost use Rattle.context.specs.Order.{byThree};
-ghost use Rattle.context.specs.Ranks.{Coded};
+ghost use Rattle.context.specs.Ranks.{Coded, Recoded};
 ghost use Rattle.literals.specs.Words.{word};
 ghost use Rattle.literals.specs.Literals.{levelsOk};
 ghost use Rattle.emit.specs.Colors.{remove, cacheWords, untaken, colorWords};
@@ -308,6 +308,7 @@ fn emit_coded(
     requires { ⌜ at + length (mapWords n transposed (now flags) (now map) w h) ≤ length (now out) ⌝ }
     ensures { λ r. ⌜ r ≡ at + length (mapWords n transposed (now (flags .entry)) (now (map .entry)) w h) ⌝ }
     ensures { λ r. ⌜ now (out .exit) ≡ written (now (out .entry)) at (mapWords n transposed (now (flags .entry)) (now (map .entry)) w h) ⌝ }
+    ensures { λ r. ⌜ Recoded (now (map .entry)) w (now (codes .entry)) (now (codes .exit)) ⌝ }
 {
     context::code_cells(map, w, codes);
     let next = emit_orientation(transposed, w, h, out, at);

@@ -51,7 +51,7 @@ emit-lines-requires c κs =
     let g : o .result + length (lines (a .n) (a .transposed) (a .flags .now) (a .map .now) (a .w) (a .h)) ≤ length (o .last .1 .1 .1 .0) =
     omega (arith, sum (a .n) (a .transposed) (a .flags .now) (a .map .now) (a .w) (a .h), s .pre .1 .1, o .ensures .0, o .kept .1 .1 .1 .0) in
     rw (c .before .before .length-of .ensures, c .before .before .before .lines-of .ensures)
-    ((s .pre .0 .0, s .pre .1 .0 .0, s .pre .1 .0 .1, c .before .before .before .before .before .before .before .before .before .before .code-cells .ensures), g)
+    ((s .pre .0 .0, s .pre .1 .0 .0, s .pre .1 .0 .1, c .before .before .before .before .before .before .before .before .before .before .code-cells .ensures .coded), g)
 
 same-length : tie.Need-same-length
 same-length c = search needs
@@ -66,11 +66,15 @@ returns c =
     let e = c .before .before .emit-lines in
     let k = c .before .before .before .before .before .length-of .ensures in
     let j = c .before .before .before .before .before .before .lines-of .ensures in
-    let all = lines (a .n) (a .transposed) (a .flags .now) (a .map .now) (a .w) (a .h) in (
+    let all = lines (a .n) (a .transposed) (a .flags .now) (a .map .now) (a .w) (a .h) in
+    let codes = c .before .before .before .before .before .before .before .before .before .before .before .before .before in (
       omega (arith, rw (k, j) at (e .ensures .0), o .ensures .0, sum (a .n) (a .transposed) (a .flags .now) (a .map .now) (a .w) (a .h)),
-      (rw (k, j) at (e .ensures .1))
-          ∙ rw (o .ensures .0, o .ensures .1, parts (a .n) (a .transposed) (a .flags .now) (a .map .now) (a .w) (a .h))
-          (written-append (a .out .now) (a .at) (orientWords (a .w) (a .h) (a .transposed)) all),
+      (
+        (rw (k, j) at (e .ensures .1))
+            ∙ rw (o .ensures .0, o .ensures .1, parts (a .n) (a .transposed) (a .flags .now) (a .map .now) (a .w) (a .h))
+            (written-append (a .out .now) (a .at) (orientWords (a .w) (a .h) (a .transposed)) all),
+        codes .code-cells .ensures,
+      ),
     )
 
 pub emit-coded-spec : {M : Type 1} → statement M
