@@ -1,6 +1,7 @@
-pub mod Powers
-pub mod State
-pub mod Halving
-pub mod Rounding
+pub mod Values
+pub mod Kept
+pub mod Fields
+pub mod Signs
+pub mod Halves
 pub mod Ranges
 pub mod Examples

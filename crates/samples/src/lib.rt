@@ -1,10 +1,9 @@
 // Which lambdas, costs and samples are within their ranges, the level of a sample, and the f32 nearest to an f64.
 // Where a function has a `requires`, the crates above have tested it before they call.
 ghost use mathlib.Core.Path.{_≡_};
-ghost use mathlib.Core.Bool.{true, false};
-ghost use Prim.Native.Nat.{_-_, _≤_, _^_};
-ghost use lib.Ieee.{binary32, binary64, round, lt, ofBits};
-ghost use lib.Ieee.Positive.{num, den};
+ghost use Prim.Native.Nat.{_-_, _≤_, _<_, _^_};
+ghost use lib.Ieee.{binary32, binary64, ofBits};
+ghost use lib.Ieee.Nearest.{closest};
 ghost use Rattle.ieee.specs.Bounds.{Within};
 ghost use Rattle.samples.specs.Samples.{allInRange, lambdaOk, costsOk, samplesOk, levelOf};
 ghost use Rattle.samples.specs.Narrow.{narrowOf};
@@ -70,42 +69,51 @@ pub fn level_of(x: f32) -> u16
     ((std::num::truncating_f32_to_u64(x + x) + 1) / 2) as u16
 }
 
-// The f32 nearest to x, for 0 < x < 2^40. In units of 2^-150 x is halved until 25 binary digits of its whole part
-// are left, so the last of them is the half that decides. From 1 on, units of 2^-25 will do, and fewer halvings.
-fn narrow_positive(x: f64) -> f32
-    requires { ⌜ (lt (ofBits binary64 0) x ≡ true) × (lt x (ofBits binary64 0x4270_0000_0000_0000) ≡ true) ⌝ }
-    ensures { λ r. ⌜ r ≡ round binary32 false (num x) (den x) ⌝ }
+// n / 2^s to the nearest whole number, ties to the even one. The last digit of twice the quotient is the half that decides.
+fn half_even(n: u64, s: u64) -> u64
+    requires { ⌜ (n < 2 ^ 53) × (1 ≤ s) × (s ≤ 53) ⌝ }
+    ensures { λ r. ⌜ r ≡ closest n (2 ^ s) ⌝ }
 {
-    let mut y = x * 1427247692705959881058285969449495136382746624.0;
-    let mut p: f32 = 1.0e-45;
-    if x >= 1.0 {
-        y = x * 33554432.0;
-        p = 5.9604644775390625e-8;
-    }
-    while y >= 33554432.0 {
-        y = y * 0.5;
-        p = p + p;
-    }
-    let t = std::num::truncating_f64_to_u64(y);
+    let t = n >> (s - 1);
     let h = t / 2;
     if t % 2 == 0 {
-        return (h as f32) * p;
+        return h;
     }
-    if (t as f64) == y {
-        return ((h + h % 2) as f32) * p;
+    if (t << (s - 1)) == n {
+        return h + h % 2;
     }
-    ((h + 1) as f32) * p
+    h + 1
 }
 
-// The f32 nearest to an error of the groups, which is below 2^40.
+// The bits of the f32 nearest to the f64 of the bits b, which has no sign and is no NaN. It is m * 2^(e - 1075), with m of 53
+// binary digits. Of these 24 are kept, and below 2^-126, where e is below 897, as many as reach the units of 2^-149.
+// What is kept of m carries into the exponent by itself.
+fn narrow_bits(b: u64) -> u64
+    requires { ⌜ b ≤ 0x7ff0_0000_0000_0000 ⌝ }
+    ensures { λ r. ⌜ (r ≤ 0x7f80_0000) × (ofBits binary32 r ≡ narrowOf (ofBits binary64 b)) ⌝ }
+{
+    let e = b / 0x10_0000_0000_0000;
+    let m = b % 0x10_0000_0000_0000 + 0x10_0000_0000_0000;
+    if e < 873 {
+        return 0;
+    }
+    if e < 897 {
+        return half_even(m, 926 - e);
+    }
+    if e > 1150 {
+        return 0x7f80_0000;
+    }
+    (e - 897) * 0x80_0000 + half_even(m, 29)
+}
+
+// The f32 nearest to x, from its bits alone: no float is computed, so that no mode of the float unit changes the answer.
 pub fn narrow(x: f64) -> f32
     ensures { λ r. ⌜ r ≡ narrowOf x ⌝ }
 {
-    if x > 0.0 {
-        if x < 1099511627776.0 {
-            return narrow_positive(x);
-        }
-        return 1.0 / 0.0;
+    if x == x {
+        let b = f64::to_bits(x);
+        let r = narrow_bits(b % 0x8000_0000_0000_0000);
+        return f32::from_bits((b / 0x8000_0000_0000_0000 * 0x8000_0000 + r) as u32);
     }
-    0.0
+    0.0 / 0.0
 }
