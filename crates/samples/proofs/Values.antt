@@ -1,18 +1,33 @@
--- A float is determined by its value, and the value of an f32 by its bits.
+-- A number equals itself; a float is determined by its value, and the value of an f32 by its bits.
 use mathlib.Core.Path.{_≡_, refl, sym, ap, _∙_, subst}
 use mathlib.Core.Logic.{_⊎_, inl, inr}
-use mathlib.Core.Bool.{Bool, true, false, cond}
+use mathlib.Core.Bool.{Bool, true, false, cond, false≢true}
 use Prim.Native.Nat.{ℕ, suc, _+_, _-_, _*_, _/_, _%_, _^_, _≤_, _<_}
 use native.Mathlib.Nat.{eq-or-lt-of-le, pow-suc}
 use native.Mathlib.Omega.{arith}
 use lib.Dec.{T, leb, eqb}
-use lib.Ieee.{Float, nan, inf, fin, Format, binary32, prec, low, hid, top, up, down, size, odd, fits, ofFields, ofBits, toBits}
+use lib.Ieee.{Float, nan, inf, fin, Format, binary32, prec, low, hid, top, up, down, size, odd, eq, isNan, fits, ofFields, ofBits, toBits}
 use lib.Ieee.Fits.{down-pos}
 use lib.Ieee.Bits.{ofBits-toBits}
 use lib.Ieee.Exact.{HasValue, odd-sign}
 use lib.Ieee.Nearest.{div-same}
-use borrow.Author.Tests.{leb-true, leb-false, lt-leb, ne-eqb}
+use borrow.Author.Tests.{leb-true, leb-false, lt-leb, eq-eqb, ne-eqb}
 use Rattle.ieee.proofs.Fractions.{same-through}
+
+-- ---- what equals itself is no NaN, and what does not is one
+pub number : (x : Float) → eq x x ≡ true → isNan x ≡ false
+unfolding eq isNan
+number nan e = sym e
+number (inf s) e = refl
+number (fin s m k) e = refl
+
+pub none : (x : Float) → eq x x ≡ false → x ≡ nan
+unfolding eq
+none nan e = refl
+none (inf true) e = absurd (false≢true (sym e))
+none (inf false) e = absurd (false≢true (sym e))
+none (fin true m k) e = absurd (false≢true (sym e ∙ rw (eq-eqb (m * up k * down k) (m * up k * down k) refl) refl))
+none (fin false m k) e = absurd (false≢true (sym e ∙ rw (eq-eqb (m * up k * down k) (m * up k * down k) refl) refl))
 
 -- ---- two floats that fit and have one value are the same
 same-bits : (f : Format) (x y : Float) (s : Bool) (a c : ℕ) → 0 < c → HasValue x s a c → HasValue y s a c

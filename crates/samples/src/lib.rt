@@ -5,18 +5,14 @@ ghost use Prim.Native.Nat.{_-_, _≤_, _<_, _^_};
 ghost use lib.Ieee.{binary32, binary64, ofBits};
 ghost use lib.Ieee.Nearest.{closest};
 ghost use Rattle.ieee.specs.Bounds.{Within};
-ghost use Rattle.samples.specs.Samples.{allInRange, lambdaOk, costsOk, samplesOk, levelOf};
+ghost use Rattle.samples.specs.Samples.{inRange, allInRange, lambdaOk, costsOk, samplesOk, levelOf};
 ghost use Rattle.samples.specs.Narrow.{narrowOf};
 
 // Number 4: lambda is within 0..2^20.
 pub fn lambda_ok(lambda: f32) -> bool
     ensures { λ r. ⌜ r ≡ lambdaOk lambda ⌝ }
 {
-    if lambda >= 0.0 {
-        lambda <= 1048576.0
-    } else {
-        false
-    }
+    in_range(lambda, 1048576)
 }
 
 // Number 5: there are 301 costs, each within 0..32.
@@ -35,7 +31,7 @@ pub fn samples_ok(samples: &[f32], bd: u32) -> bool
     requires { ⌜ (8 ≤ bd) × (bd ≤ 12) ⌝ }
     ensures { λ r. ⌜ r ≡ samplesOk bd (now (samples .entry)) ⌝ }
 {
-    all_in_range(samples, top_level(bd))
+    all_in_range(samples, top_level(bd) as u32)
 }
 
 // The largest level of the depth.
@@ -46,16 +42,29 @@ pub fn top_level(bd: u32) -> u16
     (1u16 << bd) - 1
 }
 
+// Whether x is within 0..top. The bits of floats without a sign grow with the value, and of those with one only -0.0 is
+// within. A test on the bits holds for subnormals too where the float unit takes them for 0.
+fn in_range(x: f32, top: u32) -> bool
+    requires { ⌜ top ≤ 2 ^ 24 ⌝ }
+    ensures { λ r. ⌜ r ≡ inRange top x ⌝ }
+{
+    if x == x {
+        let last = f32::to_bits(top as f32);
+        let b = f32::to_bits(x);
+        return (b <= last) | (b == 0x8000_0000);
+    }
+    false
+}
+
 // Whether each float is within 0..top. It looks at all of them: without a way out the loop is quicker.
-fn all_in_range(xs: &[f32], top: u16) -> bool
+fn all_in_range(xs: &[f32], top: u32) -> bool
+    requires { ⌜ top ≤ 2 ^ 24 ⌝ }
     ensures { λ r. ⌜ r ≡ allInRange top (now (xs .entry)) ⌝ }
 {
-    let last = top as f32;
     let mut ok = true;
     let mut i: usize = 0;
     while i < xs.len() {
-        let x = xs[i];
-        ok = ok & (x >= 0.0) & (x <= last);
+        ok = ok & in_range(xs[i], top);
         i += 1;
     }
     ok

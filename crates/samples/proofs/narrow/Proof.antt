@@ -9,24 +9,10 @@ use lib.Ieee.Bits.{ofBits-toBits, toBits-lt, nanBits-is, nanBits-above}
 use borrow.Author.Tests.{ltb-false, le-ltb, eq-eqb}
 use Rattle.ieee.proofs.Signs.{resign}
 use Rattle.samples.specs.Narrow.{narrowOf}
+use Rattle.samples.proofs.Values.{number, none}
 use Rattle.samples.proofs.Signs.{narrow-sign, sign-64, sign-32}
 use Rattle.samples.proofs.narrow.Statement.{statement}
 use Rattle.samples.proofs.narrow.Tie as tie
-
--- what equals itself is no NaN, and what does not is one
-number : (x : Float) → eq x x ≡ true → isNan x ≡ false
-unfolding eq isNan
-number nan e = sym e
-number (inf s) e = refl
-number (fin s m k) e = refl
-
-none : (x : Float) → eq x x ≡ false → x ≡ nan
-unfolding eq
-none nan e = refl
-none (inf true) e = absurd (false≢true (sym e))
-none (inf false) e = absurd (false≢true (sym e))
-none (fin true m k) e = absurd (false≢true (sym e ∙ rw (eq-eqb (m * up k * down k) (m * up k * down k) refl) refl))
-none (fin false m k) e = absurd (false≢true (sym e ∙ rw (eq-eqb (m * up k * down k) (m * up k * down k) refl) refl))
 
 module _ (x : Float) (f : T (fits binary64 x)) (z : isNan x ≡ false) where
   top : toBits binary64 x % 9223372036854775808 ≤ 0x7ff0_0000_0000_0000
