@@ -1,33 +1,41 @@
 // What the programs that replay the original's answers have in common: numbers from bytes of standard input, and a
 // line's numbers, with the hash and the untouched rest of a buffer of 4,240 places (oracle/README.md).
 // Functions here may have a `requires`.
-ghost use Prim.Native.Nat.{_<_, _≤_};
+ghost use mathlib.Core.Path.{_≡_};
+ghost use mathlib.Core.Bool.{cond};
+ghost use Prim.Native.Nat.{_+_, _*_, _<_, _≤_, min};
+ghost use lib.Dec.{eqb};
+ghost use lib.Ieee.{binary32, eq, toBits};
 ghost use lib.ListN.{length};
 
-pub fn word(b: u8) -> u32 {
+pub fn word(b: u8) -> u32
+    ensures { λ r. ⌜ r ≡ b ⌝ }
+{
     b as u32
 }
 
 pub fn wide(b: u8) -> usize
-    ensures { λ r. ⌜ r < 256 ⌝ }
+    ensures { λ r. ⌜ (r ≡ b) × (r < 256) ⌝ }
 {
     b as usize
 }
 
 // The number of two bytes, the low one first.
-pub fn pair(low: u8, high: u8) -> u16 {
+pub fn pair(low: u8, high: u8) -> u16
+    ensures { λ r. ⌜ r ≡ high * 256 + low ⌝ }
+{
     (high as u16) * 256 + low as u16
 }
 
 pub fn at_most(v: usize, most: usize) -> usize
-    ensures { λ r. ⌜ (r ≤ v) × (r ≤ most) ⌝ }
+    ensures { λ r. ⌜ r ≡ min v most ⌝ }
 {
     if v < most { v } else { most }
 }
 
 // A size from two bytes, cut to what the buffer holds.
 pub fn size(low: u8, high: u8, most: usize) -> usize
-    ensures { λ r. ⌜ r ≤ most ⌝ }
+    ensures { λ r. ⌜ r ≡ min (high * 256 + low) most ⌝ }
 {
     at_most(pair(low, high) as usize, most)
 }
@@ -71,7 +79,9 @@ fn kept(words: &[u32; 4240], from: usize, before: u32) -> u64 {
 }
 
 // A NaN has no bits to be read; no value is one.
-pub fn bits_of(value: f32) -> u32 {
+pub fn bits_of(value: f32) -> u32
+    ensures { λ r. ⌜ r ≡ cond (eq value value) (toBits binary32 value) 4294967295 ⌝ }
+{
     if value == value {
         return f32::to_bits(value);
     }
@@ -79,7 +89,9 @@ pub fn bits_of(value: f32) -> u32 {
 }
 
 // How many places a call wrote: a refusal writes none.
-pub fn written(number: u32, count: usize) -> usize {
+pub fn written(number: u32, count: usize) -> usize
+    ensures { λ r. ⌜ r ≡ cond (eqb number 0) count 0 ⌝ }
+{
     if number == 0 { count } else { 0 }
 }
 
