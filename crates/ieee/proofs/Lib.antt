@@ -7,5 +7,5 @@ pub mod Scaling
 pub mod Grows
 pub mod Monotone
 pub mod Bounds
-pub mod Truncation
+pub mod Compare
 pub mod HalfEven

@@ -1,21 +1,17 @@
--- A value that fits is a number of few digits times a power of two of units, so 2 ^ t times it, as long as it stays in
--- range, and half of it, from 1 on, are exact.
-use mathlib.Core.Path.{_≡_, refl, sym, ap, _∙_}
-use mathlib.Core.Bool.{Bool, false, _&&_}
+-- A value that fits is a number of few digits times a power of two of units, so any fraction that equals it is exact.
+use mathlib.Core.Path.{_≡_, sym, ap, _∙_}
+use mathlib.Core.Bool.{Bool, _&&_}
 use Prim.Native.Nat.{ℕ, zero, suc, _+_, _-_, _*_, _%_, _^_, _≤_, _<_}
-use native.Mathlib.Nat.{zero-mul, le-of-eq, mul-le-mul-right, mul-le-mul-left, mul-lt-mul-of-pos-left}
-use native.Mathlib.Nat.{mul-lt-mul-of-pos-right, lt-of-mul-lt-mul-right, lt-of-lt-of-le, lt-of-not-le, not-le-of-lt}
-use native.Mathlib.Nat.{le-of-suc-le-suc, le-of-mul-le-mul-right, pow-suc}
+use native.Mathlib.Nat.{zero-mul, mul-lt-mul-of-pos-right, lt-of-mul-lt-mul-right, lt-of-not-le, not-le-of-lt}
+use native.Mathlib.Nat.{le-of-suc-le-suc}
 use native.Mathlib.Omega.{arith}
-use lib.Dec.{T, ltb, leb, eqb, ltb→lt, leb→le, lit≤}
+use lib.Dec.{T, ltb, leb, eqb, ltb→lt, leb→le}
 use lib.IntN.{ℤ, pos, negsuc}
 use lib.Pow.{pow-add, pow-pos, pow-lt}
-use lib.Ieee.{Float, fin, Format, binary32, binary64, prec, emax, low, up, down, round, fits}
+use lib.Ieee.{fin, Format, prec, emax, low, up, down, round, fits}
 use lib.Ieee.Fits.{down-pos, and-l, and-r}
 use lib.Ieee.Exact.{HasValue, round-exact}
-use lib.Ieee.Positive.{num, den}
-use Rattle.ieee.specs.Bounds.{Under}
-use Rattle.ieee.proofs.Fractions.{same-through, le-whole}
+use Rattle.ieee.proofs.Fractions.{same-through}
 
 -- m * 2 ^ e is m * 2 ^ shift of the format's units, with m of few digits, and in range
 pub record Units (f : Format) (m : ℕ) (e : ℤ) : Type 0 where
@@ -54,55 +50,3 @@ fits-exact f s s' m e num den t D h =
     let u = fits-units f s' m e t in
     round-exact f s num den m (u .shift) D (u .few) (u .below)
     (same-through num den (m * up e) (down e) (m * 2 ^ u .shift) (2 ^ low f) (down-pos e) h (u .is))
-
--- so does any that is 2 ^ t times the value, for a value at most A with A * 2 ^ t below 2 ^ (emax + 1)
-pub scaled-up : (f : Format) (s s' : Bool) (m : ℕ) (e : ℤ) (A t num den : ℕ) → T (fits f (fin s' m e))
-    → m * up e ≤ A * down e → A * 2 ^ t < 2 ^ suc (emax f) → 0 < den → num * down e ≡ m * up e * 2 ^ t * den
-    → HasValue (round f s num den) s num den
-scaled-up f s s' m e A t num den fit h k D g =
-    let u = fits-units f s' m e fit in
-    let j = u .shift in
-    let w = le-whole (m * 2 ^ j) (2 ^ low f) (m * up e) (down e) A (down-pos e) (le-of-eq (sym (u .is))) h in
-    let b : m * (2 ^ j * 2 ^ t) < 2 ^ low f * 2 ^ suc (emax f) =
-    omega (arith, mul-le-mul-right (2 ^ t) w, mul-lt-mul-of-pos-right k (pow-pos (low f))) in
-    let i : m * up e * 2 ^ t * 2 ^ low f ≡ m * (2 ^ j * 2 ^ t) * down e = omega (arith, ap (λ z. z * 2 ^ t) (u .is)) in
-    round-exact f s num den m (j + t) D (u .few) (rw (pow-add 2 j t, pow-add 2 (low f) (suc (emax f))) b)
-    (same-through num den (m * up e * 2 ^ t) (down e) (m * 2 ^ (j + t)) (2 ^ low f) (down-pos e) g (rw (pow-add 2 j t) i))
-
--- ---- half of a value that is 1 or more
-not-none : (m u d l p : ℕ) → m < p → p ≤ l → 0 < d → d ≤ m * u → m * u * l ≡ m * 1 * d → ⊥
-not-none m u d l p h k D g e =
-    let a : m * u * m < m * u * l = mul-lt-mul-of-pos-left (lt-of-lt-of-le h k) (lt-of-lt-of-le D g) in
-    omega (arith, mul-le-mul-left m g)
-
-digits-low : (f : Format) → 2 ^ prec f ≤ 2 ^ low f
-digits-low binary32 = lit≤ tt
-digits-low binary64 = lit≤ tt
-
-pub scaled-half : (f : Format) (s s' : Bool) (m : ℕ) (e : ℤ) (num den : ℕ) → T (fits f (fin s' m e)) → down e ≤ m * up e
-    → 0 < den → num * (2 * down e) ≡ m * up e * den → HasValue (round f s num den) s num den
-scaled-half f s s' m e num den fit one D g = go (u .shift) (u .is) (u .below)
-  where
-    u : Units f m e
-    u = fits-units f s' m e fit
-
-    go : (j : ℕ) → m * up e * 2 ^ low f ≡ m * 2 ^ j * down e → m * 2 ^ j < 2 ^ (low f + suc (emax f))
-        → HasValue (round f s num den) s num den
-    go zero h k = absurd (not-none m (up e) (down e) (2 ^ low f) (2 ^ prec f) (u .few) (digits-low f) (down-pos e) one h)
-    go (suc j) h k =
-        let r : m * up e * 2 ^ low f ≡ m * 2 ^ j * (2 * down e) = h ∙ rw (pow-suc 2 j) (omega arith) in
-        let b : m * (2 ^ j * 2) < 2 ^ (low f + suc (emax f)) = rw (← pow-suc 2 j) k in
-        round-exact f s num den m j D (u .few) (omega arith)
-        (same-through num den (m * up e) (2 * down e) (m * 2 ^ j) (2 ^ low f) (omega (arith, down-pos e)) g r)
-
--- ---- the same for a float
-pub exact-up : (f : Format) (x : Float) (A t : ℕ) → T (fits f x) → Under x A → A * 2 ^ t < 2 ^ suc (emax f)
-    → HasValue (round f false (num x * 2 ^ t) (den x)) false (num x * 2 ^ t) (den x)
-exact-up f (fin s m e) A t fit h k = scaled-up f false s m e A t (m * up e * 2 ^ t) (down e) fit h k (down-pos e) refl
-
--- half of a / c, where that is 1 or more
-pub exact-half : (f : Format) (x : Float) (a c : ℕ) → T (fits f x) → HasValue x false a c → 0 < c → c ≤ a
-    → HasValue (round f false a (c * 2)) false a (c * 2)
-exact-half f (fin s m e) a c fit v C h =
-    let g : down e * c ≤ m * up e * c = omega (arith, v .1, mul-le-mul-right (down e) h) in
-    scaled-half f false s m e a (c * 2) fit (le-of-mul-le-mul-right g C) (omega arith) (omega (arith, v .1))

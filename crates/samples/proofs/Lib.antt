@@ -1,7 +1,9 @@
+pub mod Fields
 pub mod Values
 pub mod Kept
-pub mod Fields
+pub mod Narrowing
 pub mod Signs
+pub mod Level
 pub mod Halves
 pub mod Patterns
 pub mod Ranges

@@ -5,14 +5,15 @@ use mathlib.Core.Bool.{Bool, true, false, cond, false≢true}
 use Prim.Native.Nat.{ℕ, suc, _+_, _-_, _*_, _/_, _%_, _^_, _≤_, _<_}
 use native.Mathlib.Nat.{eq-or-lt-of-le, pow-suc}
 use native.Mathlib.Omega.{arith}
-use lib.Dec.{T, leb, eqb}
-use lib.Ieee.{Float, nan, inf, fin, Format, binary32, prec, low, hid, top, up, down, size, odd, eq, isNan, fits, ofFields, ofBits, toBits}
+use lib.Dec.{T, leb}
+use lib.Ieee.{Float, nan, inf, fin, Format, binary32, prec, low, hid, top, up, down, size, eq, isNan, fits, ofBits, toBits}
 use lib.Ieee.Fits.{down-pos}
 use lib.Ieee.Bits.{ofBits-toBits}
-use lib.Ieee.Exact.{HasValue, odd-sign}
+use lib.Ieee.Exact.{HasValue}
 use lib.Ieee.Nearest.{div-same}
-use borrow.Author.Tests.{leb-true, leb-false, lt-leb, eq-eqb, ne-eqb}
+use borrow.Author.Tests.{leb-true, leb-false, eq-eqb}
 use Rattle.ieee.proofs.Fractions.{same-through}
+use Rattle.samples.proofs.Fields.{normal-value, subnormal-value}
 
 -- ---- what equals itself is no NaN, and what does not is one
 pub number : (x : Float) → eq x x ≡ true → isNan x ≡ false
@@ -51,27 +52,20 @@ pub same-value : (f : Format) (x y : Float) (s : Bool) (a c : ℕ) → T (fits f
 same-value f x y s a c p q C v w =
     sym (ofBits-toBits f x p) ∙ ap (ofBits f) (same-bits f x y s a c C v w) ∙ ofBits-toBits f y q
 
--- ---- an f32 by the fields of its bits
-fields : (x t : ℕ) → t < 2 ^ 23 → x < 255 → ofBits binary32 (x * 8388608 + t) ≡ ofFields binary32 false x t
-unfolding ofBits
-fields x t h k =
-    let b = x * 8388608 + t in
-    let sign : leb 2147483648 b ≡ false = lt-leb 2147483648 b (omega arith) in
-    let field : b % 2147483648 / 8388608 ≡ x = omega arith in
-    let digits : b % 8388608 ≡ t = omega arith in
-    rw (sign, field, digits) refl
-
+-- ---- an f32 by its bits
 normal : (x t : ℕ) → t < 2 ^ 23 → suc x < 255
     → HasValue (ofBits binary32 (suc x * 8388608 + t)) false ((8388608 + t) * 2 ^ x) (2 ^ 149)
-unfolding ofFields
 normal x t h k =
-    let e : ofFields binary32 false (suc x) t ≡ odd 24 false (8388608 + t) x 149 =
-    ap (λ z. cond z (cond (eqb t 0) (inf false) nan) (odd 24 false (8388608 + t) x 149)) (ne-eqb (suc x) 255 (λ i. omega arith)) in
-    rw (fields (suc x) t h k ∙ e) (odd-sign 24 false (8388608 + t) x 149)
+    let b = suc x * 8388608 + t in
+    let digits : b % 8388608 + 8388608 ≡ 8388608 + t = omega arith in
+    rw (← digits) (normal-value binary32 b (omega arith) x (omega arith) k)
 
 subnormal : (t : ℕ) → t < 2 ^ 23 → HasValue (ofBits binary32 (0 * 8388608 + t)) false (t * 2 ^ 0) (2 ^ 149)
-unfolding ofFields
-subnormal t h = rw (fields 0 t h (omega arith)) (odd-sign 24 false t 0 149)
+subnormal t h =
+    let b = 0 * 8388608 + t in
+    let digits : b % 8388608 ≡ t = omega arith in
+    subst (λ z. HasValue (ofBits binary32 b) false (z * 2 ^ 0) (2 ^ 149)) digits
+    (subnormal-value binary32 b (omega arith) (omega arith))
 
 -- q units of 2 ^ (k - 149), with q of 24 digits or k = 0: a q of 2 ^ 24 carries into the exponent's field
 pub bits-value : (k q : ℕ) → q ≤ 2 ^ 24 → (k ≡ 0) ⊎ (2 ^ 23 ≤ q) → k < 254 → (q ≡ 2 ^ 24 → k < 253)

@@ -70,12 +70,19 @@ fn all_in_range(xs: &[f32], top: u32) -> bool
     ok
 }
 
-// The level of a sample: rounded half away from zero. Twice a sample is exact, so its whole part decides.
+// The level of a sample: rounded half away from zero. From its bits the sample is m * 2^(e - 150), so twice it has the whole
+// part m >> (149 - e), and half of one more is the level.
 pub fn level_of(x: f32) -> u16
     requires { ⌜ Within x 4095 ⌝ }
     ensures { λ r. ⌜ r ≡ levelOf x ⌝ }
 {
-    ((std::num::truncating_f32_to_u64(x + x) + 1) / 2) as u16
+    let b = f32::to_bits(x) % 0x8000_0000;
+    let e = b / 0x80_0000;
+    let m = b % 0x80_0000 + 0x80_0000;
+    if e < 126 {
+        return 0;
+    }
+    (((m >> (149 - e)) + 1) / 2) as u16
 }
 
 // n / 2^s to the nearest whole number, ties to the even one. The last digit of twice the quotient is the half that decides.

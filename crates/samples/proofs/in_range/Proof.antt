@@ -1,8 +1,8 @@
 -- `samples::in_range` meets its contract. Assumes nothing.
-use mathlib.Core.Path.{_≡_, refl, sym, subst}
+use mathlib.Core.Path.{refl, sym, subst}
 use mathlib.Core.Bool.{not}
 use lib.Dec.{T}
-use lib.Ieee.{Float, binary32, fits, isNan, inFloat, lt, eq, le, ofBits}
+use lib.Ieee.{inFloat, lt, eq, le, ofBits}
 use borrow.Author.Tests.{le-leb}
 use Rattle.samples.proofs.Values.{number, none}
 use Rattle.samples.proofs.Patterns.{range-bits, nat-number}

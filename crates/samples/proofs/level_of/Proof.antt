@@ -1,55 +1,87 @@
--- `samples::level_of` meets its contract. x + x is exact, so its whole part is that of twice the fraction, and half of one
--- more is the rounded number. Assumes nothing.
+-- `samples::level_of` meets its contract. Assumes nothing.
 use mathlib.Core.Path.{_≡_, sym, ap, _∙_, subst}
-use mathlib.Core.Bool.{false}
-use Prim.Native.Nat.{ℕ, _+_, _*_, _/_, _≤_, _<_}
-use native.Mathlib.Nat.{add-mul-div-right, div-div-eq-div-mul, one-mul, mul-comm}
+use Prim.Native.Nat.{ℕ, _+_, _-_, _/_, _%_, _^_, _≤_, _<_}
+use native.Mathlib.Nat.{lt-of-lt-of-le}
 use native.Mathlib.Omega.{arith}
-use lib.Dec.{T, lit≤, lit<}
-use lib.Ieee.{Float, binary32, add, fits, toUnsigned}
-use lib.Ieee.Back.{round-whole}
-use lib.Ieee.Positive.{num, den, den-pos}
-use Rattle.ieee.specs.Bounds.{Within}
-use Rattle.ieee.proofs.Bounds.{add-within}
-use Rattle.ieee.proofs.Truncation.{above-minus-one, below-two-64, trunc-is, whole-le, double-whole}
+use lib.Dec.{T, leb}
+use lib.Pow.{pow-mono, shr-lt}
+use lib.Ieee.{Float, binary32, fits, ofBits, toBits}
+use lib.Ieee.Bits.{ofBits-toBits}
+use borrow.Author.Needs.{needs}
+use Rattle.ieee.specs.Bounds.{Under}
+use Rattle.ieee.proofs.Signs.{resign}
+use Rattle.samples.specs.Samples.{levelOf}
+use Rattle.samples.proofs.Fields.{sign-of}
+use Rattle.samples.proofs.Level.{number, level-sign, under-sign, low, high}
 use Rattle.samples.proofs.level_of.Statement.{statement}
 use Rattle.samples.proofs.level_of.Tie as tie
 
-module _ (x : Float) (h : Within x 4095) where
-  twice : Within (add binary32 x x) 8190
-  twice = add-within binary32 x x 4095 4095 h h (round-whole binary32 false 8190 (lit≤ tt))
+-- x without its sign
+module _ (x : Float) (f : T (fits binary32 x)) where
+  unsigned : x ≡ resign (leb 2147483648 (toBits binary32 x)) (ofBits binary32 (toBits binary32 x % 2147483648))
+  unsigned = sym (ofBits-toBits binary32 x f) ∙ sign-of binary32 (toBits binary32 x)
 
-  whole : toUnsigned 64 (add binary32 x x) ≡ num (add binary32 x x) / den (add binary32 x x)
-  whole = trunc-is (add binary32 x x) 8190 twice (lit< tt)
+  same : levelOf (ofBits binary32 (toBits binary32 x % 2147483648)) ≡ levelOf x
+  same =
+      sym (ap levelOf unsigned
+      ∙ level-sign (leb 2147483648 (toBits binary32 x)) (ofBits binary32 (toBits binary32 x % 2147483648)))
 
-  whole-small : toUnsigned 64 (add binary32 x x) ≤ 8190
-  whole-small = rw whole (whole-le (add binary32 x x) 8190 (twice .0))
+  bounded : Under x 4095 → Under (ofBits binary32 (toBits binary32 x % 2147483648)) 4095
+  bounded u =
+      under-sign (leb 2147483648 (toBits binary32 x)) (ofBits binary32 (toBits binary32 x % 2147483648)) 4095
+      (subst (λ z. Under z 4095) unsigned u)
 
--- half of one more than the whole part of n / d is (n + d) / 2d
-half-up : (n d : ℕ) → 0 < d → (n / d + 1) / 2 ≡ (n + d) / (2 * d)
-half-up n d h =
-    ap (λ z. z / 2) (sym (add-mul-div-right n 1 h) ∙ ap (λ z. (n + z) / d) (one-mul d))
-    ∙ div-div-eq-div-mul (n + d) d 2 ∙ ap (λ z. (n + d) / z) (mul-comm d 2)
+held : (c : tie.Start) → T (fits binary32 (c .args .x))
+held c = subst T (sym (c .good .0 .1)) tt
 
-truncating-f32-to-u64-requires : tie.Need-truncating-f32-to-u64-requires
-truncating-f32-to-u64-requires c κs =
-    let x = c .args .x in
-    let w = twice x (c .pre) in
-    (above-minus-one (add binary32 x x) 8190 w, below-two-64 (add binary32 x x) 8190 w (lit< tt))
+float-to-bits-b : tie.Need-float-to-bits-b
+float-to-bits-b c = number (c .args .x) 4095 (c .pre .0)
 
-add-result : tie.Need-add-result
-add-result c = omega (arith, whole-small (c .before .args .x) (c .before .pre), c .truncating-f32-to-u64 .ensures)
-
-cast-result : tie.Need-cast-result
-cast-result c = omega (arith, whole-small (c .before .args .x) (c .before .pre), c .truncating-f32-to-u64 .ensures)
+add-m : tie.Need-add-m
+add-m c = search needs
 
 returns : tie.Need-returns
 returns c =
-    let x = c .before .args .x in
-    let h = c .before .pre in
-    let t : T (fits binary32 x) = subst T (sym (c .before .good .0 .1)) tt in
-    ap (λ z. (z + 1) / 2) (c .truncating-f32-to-u64 .ensures ∙ whole x h ∙ double-whole binary32 x 4095 t (h .0) (lit< tt))
-    ∙ half-up (2 * num x) (den x) (den-pos x)
+    let s = c .before in
+    let x = s .args .x in
+    low (toBits binary32 x % 2147483648) (omega arith) (bounded x (held s) (s .pre .0)) (c .if1 .taken) ∙ same x (held s)
+
+-- from 0.5 on
+rounded : (c : tie.Else1)
+    → let x = c .before .args .x in
+    let b = toBits binary32 x % 2147483648 in
+    (b / 8388608 ≤ 138) × (((b % 8388608 + 8388608) / 2 ^ (149 - b / 8388608) + 1) / 2 ≡ levelOf x)
+rounded c =
+    let s = c .before in
+    let x = s .args .x in
+    let h = high (toBits binary32 x % 2147483648) (omega arith) (bounded x (held s) (s .pre .0)) (omega (arith, c .if1 .left)) in
+    (h .0, h .1 ∙ same x (held s))
+
+small : (m e : ℕ) → m < 2 ^ 24 → e ≤ 138 → m / 2 ^ (149 - e) < 2 ^ 13
+small m e h l = shr-lt 13 (149 - e) (lt-of-lt-of-le h (pow-mono {i = 24} {j = 13 + (149 - e)} (omega arith)))
+
+small-at : (c : tie.Else1)
+    → let b = toBits binary32 (c .before .args .x) % 2147483648 in
+    (b % 8388608 + 8388608) / 2 ^ (149 - b / 8388608) < 2 ^ 13
+small-at c =
+    let b = toBits binary32 (c .before .args .x) % 2147483648 in
+    small (b % 8388608 + 8388608) (b / 8388608) (omega arith) (rounded c .0)
+
+sub-result : tie.Need-sub-result
+sub-result c = omega (arith, rounded c .0)
+
+shr-result : tie.Need-shr-result
+shr-result c = search needs
+
+add-result : tie.Need-add-result
+add-result c = omega (arith, small-at c)
+
+cast-result : tie.Need-cast-result
+cast-result c = omega (arith, small-at c)
+
+returns-2 : tie.Need-returns-2
+returns-2 c = rounded c .1
 
 pub level-of-spec : {M : Type 1} → statement M
-level-of-spec = tie.close (tie.spec truncating-f32-to-u64-requires add-result cast-result returns)
+level-of-spec =
+    tie.close (tie.spec float-to-bits-b add-m returns sub-result shr-result add-result cast-result returns-2)

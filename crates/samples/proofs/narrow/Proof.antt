@@ -1,16 +1,17 @@
 -- `samples::narrow` meets its contract. Assumes nothing.
 use mathlib.Core.Path.{_≡_, refl, sym, ap, _∙_, subst}
-use mathlib.Core.Bool.{true, false, not, false≢true}
+use mathlib.Core.Bool.{false, not}
 use Prim.Native.Nat.{ℕ, _+_, _*_, _/_, _%_, _^_, _≤_, _<_}
 use native.Mathlib.Omega.{arith}
 use lib.Dec.{T, ltb, leb}
-use lib.Ieee.{Float, nan, inf, fin, binary32, binary64, up, down, eq, div, fits, isNan, nanBits, ofBits, toBits}
+use lib.Ieee.{Float, binary32, binary64, div, fits, isNan, nanBits, ofBits, toBits}
 use lib.Ieee.Bits.{ofBits-toBits, toBits-lt, nanBits-is, nanBits-above}
-use borrow.Author.Tests.{ltb-false, le-ltb, eq-eqb}
+use borrow.Author.Tests.{ltb-false, le-ltb}
 use Rattle.ieee.proofs.Signs.{resign}
 use Rattle.samples.specs.Narrow.{narrowOf}
+use Rattle.samples.proofs.Fields.{sign-of}
 use Rattle.samples.proofs.Values.{number, none}
-use Rattle.samples.proofs.Signs.{narrow-sign, sign-64, sign-32}
+use Rattle.samples.proofs.Signs.{narrow-sign, sign-32}
 use Rattle.samples.proofs.narrow.Statement.{statement}
 use Rattle.samples.proofs.narrow.Tie as tie
 
@@ -30,7 +31,7 @@ module _ (x : Float) (f : T (fits binary64 x)) (z : isNan x ≡ false) where
       let b = toBits binary64 x in
       let s = leb 9223372036854775808 b in
       sign-32 b r wide h ∙ ap (λ y. resign s y) e ∙ sym (narrow-sign s (ofBits binary64 (b % 9223372036854775808)))
-      ∙ ap narrowOf (sym (sign-64 b) ∙ ofBits-toBits binary64 x f)
+      ∙ ap narrowOf (sym (sign-of binary64 b) ∙ ofBits-toBits binary64 x f)
 
 no-nan : (b r : ℕ) → b < 2 ^ 64 → r ≤ 0x7f80_0000 → T (not (nanBits binary32 (b / 9223372036854775808 * 2147483648 + r)))
 no-nan b r h k =

@@ -6,7 +6,7 @@ use native.Mathlib.Omega.{arith}
 use lib.Ieee.{binary32, binary64, ofBits}
 use borrow.Author.Needs.{needs}
 use Rattle.samples.specs.Narrow.{narrowOf}
-use Rattle.samples.proofs.Fields.{nothing, few, most, above}
+use Rattle.samples.proofs.Narrowing.{nothing, few, most, above}
 use Rattle.samples.proofs.narrow_bits.Statement.{statement}
 use Rattle.samples.proofs.narrow_bits.Tie as tie
 
