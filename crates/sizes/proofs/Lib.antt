@@ -3,4 +3,5 @@ pub mod Turns
 pub mod Those
 pub mod Order
 pub mod Levels
+pub mod Sorted
 pub mod Open
