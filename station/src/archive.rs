@@ -1,8 +1,11 @@
-//! The archive's functions. All unsafe code of the package is here.
+//! The archive's functions, each called in the default floating environment. All unsafe code of
+//! the package is here and in `environment`.
 //!
 //! Each function of the archive is proved to end, to read only what is lent, and to write only
 //! what its contract names. So each call below is sound as soon as every pointer and length comes
 //! from one live slice, and the lent mutable ones do not overlap; Rust's references see to both.
+
+use crate::environment::in_default;
 
 /// A palette as the archive takes it.
 #[derive(Clone, Copy)]
@@ -95,7 +98,7 @@ extern "C" {
 
 pub(crate) fn block_allowed(bw4: usize, bh4: usize) -> bool {
     // SAFETY: two numbers go in and one byte, 0 or 1, comes out; no memory is touched.
-    unsafe { palette_block_allowed(bw4, bh4) }
+    in_default(|| unsafe { palette_block_allowed(bw4, bh4) })
 }
 
 /// The number; `answer` becomes the context and the order's eight places.
@@ -108,7 +111,7 @@ pub(crate) fn context(
     answer: &mut [u32; 9],
 ) -> u32 {
     // SAFETY: pointer and length are of one slice; `answer` is borrowed for this call alone.
-    unsafe { palette_context(map.as_ptr(), map.len(), stride, y, x, n, answer) }
+    in_default(|| unsafe { palette_context(map.as_ptr(), map.len(), stride, y, x, n, answer) })
 }
 
 /// The number; `found` becomes n, eight colours and orientation, `bits` the estimate.
@@ -121,7 +124,7 @@ pub(crate) fn search(
 ) -> u32 {
     // SAFETY: each pointer and length is of one slice; the four mutable borrows do not overlap,
     // and the function writes within their lengths only.
-    unsafe {
+    in_default(|| unsafe {
         palette_search(
             asked.samples.as_ptr(),
             asked.samples.len(),
@@ -138,7 +141,7 @@ pub(crate) fn search(
             found,
             bits,
         )
-    }
+    })
 }
 
 /// Calls a function whose first ten arguments are a palette. A macro, since the ten cannot be handed
@@ -170,7 +173,7 @@ pub(crate) fn list(
 ) -> u32 {
     // SAFETY: each pointer and length is of one slice; the two mutable borrows do not overlap,
     // and the function writes within their lengths only.
-    unsafe {
+    in_default(|| unsafe {
         with_palette!(
             palette_list,
             palette,
@@ -180,14 +183,16 @@ pub(crate) fn list(
             words.len(),
             listed
         )
-    }
+    })
 }
 
 /// The number; `values` becomes the colours of the cells.
 pub(crate) fn pred(palette: Lent<'_>, values: &mut [f32]) -> u32 {
     // SAFETY: each pointer and length is of one slice; `values` is the only mutable borrow, and
     // the function writes within its length only.
-    unsafe { with_palette!(palette_pred, palette, values.as_mut_ptr(), values.len()) }
+    in_default(|| unsafe {
+        with_palette!(palette_pred, palette, values.as_mut_ptr(), values.len())
+    })
 }
 
 #[cfg(test)]

@@ -24,6 +24,11 @@
 //! and cache never share a list. No input makes a function fail other than by a refusal, and a
 //! refusal leaves every lent buffer as it was.
 //!
+//! The answers do not depend on the caller's floating environment: each call runs in the default
+//! one and puts the caller's back. So a program that flushes subnormal numbers to 0 (C's
+//! `-ffast-math`) or rounds upward finds the same palettes, and one that has unmasked float
+//! exceptions gets none out of a search.
+//!
 //! [`search`], [`list`] and [`pred`] allocate what they hand back. A station that goes through
 //! many blocks lends its own buffers to [`search_into`], [`list_into`] and [`pred_into`]; then
 //! nothing is allocated.
@@ -36,6 +41,8 @@ mod archive;
 mod calls;
 mod context;
 mod costs;
+#[allow(unsafe_code)]
+mod environment;
 mod limits;
 mod listing;
 mod palette;
