@@ -3,11 +3,21 @@
  *
  * The archive is written by `rt staticlib station` at the repository's top, to target/staticlib.
  * Link it with the C library only:  cc station.c -Iinclude target/staticlib/libstation.a
+ * Where palette_search_default_env is used, add -lm.
  *
  * Every function is proved to meet its contract for all values of its arguments, as long as
  *  - a pointer is not NULL, not even where the length beside it is 0,
  *  - it points to as many elements as the length says, or as its array type says,
- *  - what is written to does not overlap with any other argument.
+ *  - what is written to does not overlap with any other argument,
+ *  - the calling thread's floating-point environment is the default one, C's FE_DFL_ENV: rounding
+ *    to nearest, neither flush-to-zero nor denormals-are-zero, exceptions masked.
+ *
+ * The last matters for palette_search alone. palette_pred makes floats of whole numbers below
+ * 4096, which is exact in every environment, and the others have none. A program starts in the
+ * default environment unless it is linked with -ffast-math (or -Ofast, or
+ * -funsafe-math-optimizations): that sets flush-to-zero and denormals-are-zero, and the search may
+ * then find another palette. fesetround and feenableexcept leave it too, and so may a library.
+ * Whoever cannot rule that out calls palette_search_default_env.
  *
  * A function that returns uint32_t returns document 01's number: 0 if accepted, else the first
  * of its tests that fails. After a refusal every lent buffer (map, flags, words, values) is as it
@@ -18,6 +28,7 @@
 #ifndef PALETTE_H
 #define PALETTE_H
 
+#include <fenv.h>
 #include <stdbool.h>
 #include <stddef.h>
 #include <stdint.h>
@@ -87,6 +98,28 @@ uint32_t palette_search(const float *samples, size_t count, size_t width, size_t
                         uint32_t bd, float lambda, const float *costs, size_t entries,
                         uint8_t *map, size_t map_room, uint8_t *flags, size_t flag_room,
                         uint32_t found[10], float *bits);
+
+/*
+ * palette_search in the default environment, whatever the caller's, which is put back: exceptions
+ * noted in it too. It is not in the archive: it is defined here, over <fenv.h>, and needs -lm.
+ *
+ * It computes with no floats itself, so it does well without #pragma STDC FENV_ACCESS: what has
+ * to stay between the calls of fesetenv is a call that the compiler cannot see into. fegetenv and
+ * fesetenv cannot fail on x86-64, which is all that the archive is for.
+ */
+static inline uint32_t palette_search_default_env(
+    const float *samples, size_t count, size_t width, size_t height, uint32_t bd, float lambda,
+    const float *costs, size_t entries, uint8_t *map, size_t map_room, uint8_t *flags,
+    size_t flag_room, uint32_t found[10], float *bits) {
+    fenv_t caller;
+    uint32_t number;
+    fegetenv(&caller);
+    fesetenv(FE_DFL_ENV);
+    number = palette_search(samples, count, width, height, bd, lambda, costs, entries, map,
+                            map_room, flags, flag_room, found, bits);
+    fesetenv(&caller);
+    return number;
+}
 
 /*
  * Lists the calls of a palette: the first n of eight colours, an index for each cell (`cells` is

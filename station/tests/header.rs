@@ -1,5 +1,5 @@
-//! The C header beside the archive: it declares every export, and a C program that calls them
-//! all is compiled and run.
+//! The C header beside the archive: it declares every export, what it defines itself is told
+//! apart, and C programs that call all of it are compiled and run.
 
 use palette_station as station;
 use std::collections::BTreeSet;
@@ -37,15 +37,36 @@ fn run(command: &mut Command) -> Option<Output> {
     }
 }
 
-/// Names in the header that stand before a bracket.
-fn declared() -> BTreeSet<String> {
+/// The header's code in two parts: what it declares, and each function that it defines inline.
+/// The archive holds the former only, and what the latter call is declared by that alone.
+fn parts() -> (String, Vec<String>) {
     let code = code();
+    let mut pieces = code.split("static inline ");
+    let mut declarations = pieces.next().unwrap_or_default().to_string();
+    let mut inlines = Vec::new();
+    for piece in pieces {
+        let (inline, rest) = piece.split_once("\n}\n").expect("it ends by such a line");
+        inlines.push(inline.to_string());
+        declarations.push_str(rest);
+    }
+    (declarations, inlines)
+}
+
+/// The functions of the header in this code, by the names that stand before a bracket.
+fn functions(code: &str) -> Vec<String> {
     let before = |(place, _): (usize, &str)| {
         let name = code[..place].rsplit(|c: char| !c.is_ascii_alphanumeric() && c != '_');
         name.into_iter().next().unwrap_or_default().to_string()
     };
     let names = code.match_indices('(').map(before);
     names.filter(|name| name.starts_with("palette_")).collect()
+}
+
+/// What stands in the brackets behind a function's name, without its line breaks.
+fn parameters(code: &str, name: &str) -> Option<String> {
+    let (_, behind) = code.split_once(&format!("{name}("))?;
+    let (within, _) = behind.split_once(')')?;
+    Some(within.split_whitespace().collect::<Vec<_>>().join(" "))
 }
 
 /// Kinds and names of the archive's symbols; none, with a message, without nm.
@@ -67,11 +88,28 @@ fn symbols() -> Option<Vec<(char, String)>> {
 #[test]
 fn every_export_is_declared_and_nothing_else() {
     let Some(symbols) = symbols() else { return };
+    let (declarations, _) = parts();
     let exports = symbols.into_iter().filter(|(kind, _)| *kind == 'T');
     let names = exports.map(|(_, name)| name);
     let exports: BTreeSet<String> = names.filter(|name| name.starts_with("palette_")).collect();
     assert!(!exports.is_empty());
-    assert_eq!(declared(), exports);
+    let declared = functions(&declarations).into_iter().collect();
+    assert_eq!(exports, declared);
+}
+
+/// Whatever has a body is `static inline`, so that two files of a program can include the header.
+#[test]
+fn one_function_is_defined_inline() {
+    let (declarations, inlines) = parts();
+    assert!(!declarations.replace("extern \"C\" {", "").contains('{'));
+    let [inline] = &inlines[..] else {
+        panic!("{} functions are defined inline", inlines.len());
+    };
+    let calls = ["palette_search_default_env", "palette_search"];
+    assert_eq!(functions(inline), calls);
+    let theirs = parameters(&declarations, "palette_search");
+    assert!(theirs.is_some());
+    assert_eq!(parameters(inline, "palette_search_default_env"), theirs);
 }
 
 /// So the functions allocate nothing, and calls from several threads share nothing.
@@ -88,16 +126,38 @@ fn the_archive_moves_memory_only_and_keeps_none() {
     }
 }
 
+/// So MXCSR is all of the floating environment that its functions see, and none of them changes it.
 #[test]
-fn a_c_program_calls_them_all() {
+fn the_archive_computes_by_sse_alone() {
+    let Some(output) = run(Command::new("objdump").args(["-d", ARCHIVE])) else {
+        return;
+    };
+    assert!(output.status.success(), "objdump failed on {ARCHIVE}");
+    let text = String::from_utf8_lossy(&output.stdout);
+    // A line has a place, the bytes and the instruction, whose first word is its name.
+    let instructions = text.lines().filter_map(|line| line.split('\t').nth(2));
+    let names = instructions.filter_map(|words| words.split_whitespace().next());
+    let names: BTreeSet<&str> = names.collect();
+    assert!(names.contains("addss"), "no instruction's name was read");
+    let other = |name: &&&str| name.starts_with('f') || name.contains("mxcsr");
+    assert_eq!(names.iter().find(other), None);
+}
+
+/// Compiles a program of `tests/c` without a warning, links it with the archive and runs it. It
+/// says which of its checks went wrong, and how many.
+fn none_wrong(compiler: &str, words: &[&str], source: &str, libraries: &[&str]) {
     let here = Path::new(env!("CARGO_MANIFEST_DIR"));
-    let program = Path::new(env!("CARGO_TARGET_TMPDIR")).join("exports");
-    let mut compile = Command::new("cc");
+    let name = format!("{source}.{compiler}");
+    let program = Path::new(env!("CARGO_TARGET_TMPDIR")).join(name);
+    let mut compile = Command::new(compiler);
     compile
-        .args(["-std=c99", "-Wall", "-Wextra", "-Werror", "-pedantic", "-I"])
+        .args(["-Wall", "-Wextra", "-Werror", "-pedantic", "-I"])
         .arg(here.join("include"))
-        .arg(here.join("tests/c/exports.c"))
-        .arg(ARCHIVE)
+        .args(words)
+        .arg(here.join("tests/c").join(source))
+        // The archive is in no language, whichever the words name.
+        .args(["-x", "none", ARCHIVE])
+        .args(libraries)
         .arg("-o")
         .arg(&program);
     let Some(compiled) = run(&mut compile) else {
@@ -107,7 +167,26 @@ fn a_c_program_calls_them_all() {
     assert!(compiled.status.success(), "{messages}");
     let output = Command::new(&program).output().expect("it runs");
     let said = String::from_utf8_lossy(&output.stdout);
-    assert!(output.status.success() && said == "0 wrong\n", "{said}");
+    let right = output.status.success() && said == "0 wrong\n";
+    assert!(right, "{said}{}", output.status);
+}
+
+/// Without -lm, which only the inline function needs.
+#[test]
+fn a_c_program_calls_them_all() {
+    none_wrong("cc", &["-std=c99"], "exports.c", &[]);
+}
+
+#[test]
+fn a_c_program_with_fast_math() {
+    let words = ["-std=c99", "-O2", "-ffast-math"];
+    none_wrong("cc", &words, "fast_math.c", &["-lm"]);
+}
+
+#[test]
+fn a_cpp_program_with_fast_math() {
+    let words = ["-std=c++11", "-O2", "-ffast-math", "-x", "c++"];
+    none_wrong("c++", &words, "fast_math.c", &["-lm"]);
 }
 
 /// The number behind a name that the header defines.

@@ -1,0 +1,143 @@
+/*
+ * The search in a program that is linked with -ffast-math, so that subnormal numbers are taken
+ * for 0: by itself, and in the default environment. It compiles as C and as C++.
+ *
+ * The compiler may reckon without subnormal numbers here, so they are made and compared by bits.
+ */
+#include "palette.h"
+
+#include <stdio.h>
+#include <string.h>
+#include <xmmintrin.h>
+
+static int wrong = 0;
+
+static void check(bool holds, int line, const char *what) {
+    if (!holds) {
+        printf("line %d: %s\n", line, what);
+        wrong++;
+    }
+}
+
+#define CHECK(what) check((what), __LINE__, #what)
+
+/* Of the register MXCSR. */
+#define FLUSH_TO_ZERO 0x8000u
+#define DENORMALS_ARE_ZERO 0x0040u
+#define BOTH (FLUSH_TO_ZERO | DENORMALS_ARE_ZERO)
+#define EXCEPTION_MASKS 0x1f80u
+
+/* The least negative number there is. */
+#define LEAST 0x80000001u
+
+typedef uint32_t search_function(const float *, size_t, size_t, size_t, uint32_t, float,
+                                 const float *, size_t, uint8_t *, size_t, uint8_t *, size_t,
+                                 uint32_t *, float *);
+
+/* What a search takes and gives. */
+typedef struct {
+    float samples[16], lambda, costs[PALETTE_COSTS];
+    uint8_t map[16], flags[16];
+    uint32_t found[10];
+    float bits;
+} searched;
+
+/* The smallest block seen that has other colours where subnormal numbers are taken for 0. */
+static searched smallest(void) {
+    searched block;
+    memset(&block, 0, sizeof block);
+    for (int i = 0; i < 16; i++) block.samples[i] = 16;
+    block.samples[0] = 18.5f;
+    block.samples[1] = block.samples[6] = block.samples[13] = 17.75f;
+    return block;
+}
+
+static uint32_t number(search_function *search, searched *s) {
+    return search(s->samples, 16, 16, 1, 8, s->lambda, s->costs, PALETTE_COSTS, s->map, 16,
+                  s->flags, 16, s->found, &s->bits);
+}
+
+/* Three colours, and an estimate of 69. */
+static bool right(search_function *search) {
+    static const uint32_t due[10] = {3, 16, 18, 19, 0, 0, 0, 0, 0, 0};
+    const uint32_t estimate = 0x428a0000;
+    searched block = smallest();
+    return number(search, &block) == PALETTE_ACCEPTED &&
+           memcmp(block.found, due, sizeof due) == 0 &&
+           memcmp(&block.bits, &estimate, sizeof estimate) == 0;
+}
+
+static void put_least(float *place) {
+    const uint32_t least = LEAST;
+    memcpy(place, &least, sizeof least);
+}
+
+static uint32_t least_sample(search_function *search) {
+    searched block = smallest();
+    put_least(&block.samples[7]);
+    return number(search, &block);
+}
+
+static uint32_t least_cost(search_function *search) {
+    searched block = smallest();
+    put_least(&block.costs[150]);
+    return number(search, &block);
+}
+
+static uint32_t least_lambda(search_function *search) {
+    searched block = smallest();
+    put_least(&block.lambda);
+    return number(search, &block);
+}
+
+/* By itself it has to know subnormal numbers by their bits. */
+static void direct(void) {
+    CHECK(right(palette_search));
+    CHECK(least_sample(palette_search) == PALETTE_SAMPLE);
+    CHECK(least_cost(palette_search) == PALETTE_COST_TABLE);
+    CHECK(least_lambda(palette_search) == PALETTE_LAMBDA);
+}
+
+/* Whether the whole register is afterwards as it was: the exceptions noted in it too. */
+static bool env_kept(void) {
+    searched block = smallest();
+    const unsigned before = _mm_getcsr();
+    number(palette_search_default_env, &block);
+    return _mm_getcsr() == before;
+}
+
+static void in_default_env(void) {
+    CHECK(right(palette_search_default_env));
+    CHECK(least_sample(palette_search_default_env) == PALETTE_SAMPLE);
+    CHECK(least_cost(palette_search_default_env) == PALETTE_COST_TABLE);
+    CHECK(least_lambda(palette_search_default_env) == PALETTE_LAMBDA);
+    CHECK(env_kept());
+}
+
+static void with_every_rounding(void) {
+    static const int roundings[] = {FE_DOWNWARD, FE_UPWARD, FE_TOWARDZERO, FE_TONEAREST};
+    for (size_t i = 0; i < 4; i++) {
+        CHECK(fesetround(roundings[i]) == 0);
+        in_default_env();
+        CHECK(fegetround() == roundings[i]);
+    }
+}
+
+/* An exception would end the program. */
+static void with_exceptions_unmasked(void) {
+    const unsigned before = _mm_getcsr();
+    _mm_setcsr(before & ~EXCEPTION_MASKS);
+    in_default_env();
+    _mm_setcsr(before);
+}
+
+int main(void) {
+    CHECK((_mm_getcsr() & BOTH) == BOTH);
+    direct();
+    in_default_env();
+    with_every_rounding();
+    with_exceptions_unmasked();
+    CHECK((_mm_getcsr() & BOTH) == BOTH);
+    printf("%d wrong\n", wrong);
+    return wrong != 0;
+}
