@@ -102,6 +102,19 @@ fn the_smallest_block() {
     }
 }
 
+/// Two lines of one level each: whether the second is flagged, a subnormal cost decides.
+#[test]
+fn a_subnormal_cost_counts() {
+    let samples = [[10.0; 16], [20.0; 16]].concat();
+    let mut table = [0.0; 301];
+    table[9 + 3 + 1] = 1e-40; // the flag 1 after a line that has it
+    let costs = Costs::from_table(table);
+    for (name, mode) in MODES {
+        let palette = under(mode, || search(&block(&samples, 16, 2), 1.0, &costs)).unwrap();
+        assert_eq!(palette.flags, [1, 0], "{name}");
+    }
+}
+
 #[test]
 fn a_negative_subnormal_is_refused() {
     let least = f32::from_bits(0x8000_0001);

@@ -27,17 +27,19 @@ static void check(bool holds, int line, const char *what) {
 #define BOTH (FLUSH_TO_ZERO | DENORMALS_ARE_ZERO)
 #define EXCEPTION_MASKS 0x1f80u
 
-/* The least negative number there is. */
+/* The least negative number there is, and a cost of about 1e-40. */
 #define LEAST 0x80000001u
+#define TINY 0x000116c2u
 
 typedef uint32_t search_function(const float *, size_t, size_t, size_t, uint32_t, float,
                                  const float *, size_t, uint8_t *, size_t, uint8_t *, size_t,
                                  uint32_t *, float *);
 
-/* What a search takes and gives. */
+/* What a search takes and gives: one or two rows of 16. */
 typedef struct {
-    float samples[16], lambda, costs[PALETTE_COSTS];
-    uint8_t map[16], flags[16];
+    size_t height;
+    float samples[32], lambda, costs[PALETTE_COSTS];
+    uint8_t map[32], flags[16];
     uint32_t found[10];
     float bits;
 } searched;
@@ -46,6 +48,7 @@ typedef struct {
 static searched smallest(void) {
     searched block;
     memset(&block, 0, sizeof block);
+    block.height = 1;
     for (int i = 0; i < 16; i++) block.samples[i] = 16;
     block.samples[0] = 18.5f;
     block.samples[1] = block.samples[6] = block.samples[13] = 17.75f;
@@ -53,8 +56,8 @@ static searched smallest(void) {
 }
 
 static uint32_t number(search_function *search, searched *s) {
-    return search(s->samples, 16, 16, 1, 8, s->lambda, s->costs, PALETTE_COSTS, s->map, 16,
-                  s->flags, 16, s->found, &s->bits);
+    return search(s->samples, 16 * s->height, 16, s->height, 8, s->lambda, s->costs,
+                  PALETTE_COSTS, s->map, 32, s->flags, 16, s->found, &s->bits);
 }
 
 /* Three colours, and an estimate of 69. */
@@ -67,30 +70,41 @@ static bool right(search_function *search) {
            memcmp(&block.bits, &estimate, sizeof estimate) == 0;
 }
 
-static void put_least(float *place) {
-    const uint32_t least = LEAST;
-    memcpy(place, &least, sizeof least);
-}
+static void put(float *place, uint32_t bits) { memcpy(place, &bits, sizeof bits); }
 
 static uint32_t least_sample(search_function *search) {
     searched block = smallest();
-    put_least(&block.samples[7]);
+    put(&block.samples[7], LEAST);
     return number(search, &block);
 }
 
 static uint32_t least_cost(search_function *search) {
     searched block = smallest();
-    put_least(&block.costs[150]);
+    put(&block.costs[150], LEAST);
     return number(search, &block);
 }
 
 static uint32_t least_lambda(search_function *search) {
     searched block = smallest();
-    put_least(&block.lambda);
+    put(&block.lambda, LEAST);
     return number(search, &block);
 }
 
-/* By itself it has to know subnormal numbers by their bits. */
+/* Two rows of one level each: whether the second is flagged, a subnormal cost decides. */
+static bool tiny_cost_counts(search_function *search) {
+    searched block = smallest();
+    block.height = 2;
+    block.lambda = 1;
+    for (int i = 0; i < 32; i++) block.samples[i] = i < 16 ? 10 : 20;
+    put(&block.costs[9 + 3 + 1], TINY);
+    return number(search, &block) == PALETTE_ACCEPTED && block.flags[0] == 1 &&
+           block.flags[1] == 0;
+}
+
+/*
+ * By itself the search knows the numbers that it tests and narrows by their bits. What it adds up
+ * is still the environment's: tiny_cost_counts is asked of the default one only.
+ */
 static void direct(void) {
     CHECK(right(palette_search));
     CHECK(least_sample(palette_search) == PALETTE_SAMPLE);
@@ -111,6 +125,7 @@ static void in_default_env(void) {
     CHECK(least_sample(palette_search_default_env) == PALETTE_SAMPLE);
     CHECK(least_cost(palette_search_default_env) == PALETTE_COST_TABLE);
     CHECK(least_lambda(palette_search_default_env) == PALETTE_LAMBDA);
+    CHECK(tiny_cost_counts(palette_search_default_env));
     CHECK(env_kept());
 }
 
