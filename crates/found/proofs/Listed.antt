@@ -4,7 +4,6 @@ use mathlib.Core.Bool.{Bool, true, false, cond}
 use mathlib.Core.Path.{_≡_, refl, sym, ap, _∙_, subst}
 use mathlib.Core.List.{List}
 use lib.Dec.{eqb}
-use lib.Ieee.{Float}
 use lib.ListN.{length, take, drop}
 use lib.Seq.{take-at}
 use borrow.Author.Tests.{le-leb, eqb-true, eqb-false}
@@ -16,15 +15,14 @@ use Rattle.accept.specs.Accepted.{Accepted}
 use Rattle.accept.proofs.Accepted.{zero-of-accepted}
 use Rattle.listing.specs.Listing.{callList, listNumber, Lists}
 use Rattle.listing.specs.declared.Listed.{Listed}
-use Rattle.sizes.specs.declared.Block.{Block}
-use Rattle.search.specs.Search.{Standing, foundIn, searchNumber, paletteBy, refusedBy, Searches}
+use Rattle.search.specs.Search.{Standing, foundIn, searchNumber, paletteBy, refusedBy}
 use Rattle.search.specs.declared.Best.{Best}
 use Rattle.search.specs.declared.Palette.{Palette as Answer}
 use Rattle.search.proofs.Lengths.{lines-are}
 use Rattle.search.proofs.Passed.{all-passed}
 use Rattle.search.proofs.Kept.{kept-cells, kept-flags}
 use Rattle.search.proofs.Finds.{finds}
-use Rattle.found.specs.Listed.{foundPalette, ListedWhole}
+use Rattle.found.specs.Listed.{foundPalette, ListedWhole, FoundIsListed}
 use Rattle.found.proofs.Kept.{kept-accepted}
 
 -- search returned 0: all its tests have passed, and it handed the best map over
@@ -59,18 +57,9 @@ listed-whole : (w h bd : ℕ) (cache : List ℕ) (p : Palette) (before after : L
 unfolding listNumber
 listed-whole w h bd cache p before after l a ok room =
     let z : l .number ≡ 0 = a .number ∙ rw (zero-of-accepted w h bd cache p ok, le-leb _ _ room) refl in
-    record { number = z; count = rw z at (a .count); words = rw z at (a .words) }
+    record { number = z; count = rw z at (a .count); width = rw z at (a .width); words = rw z at (a .words) }
 
--- ---- the theorem
--- whatever search was given: if it returns 0, then the listing, with any cache of up to 64 entries and with room
--- for the list, returns 0 and writes the found palette's whole call list
-pub found-is-listed : (samples costs : List Float) (b : Block) (map₀ map flags₀ flags : List ℕ) (r : Answer)
-    → Searches samples costs b map₀ map flags₀ flags r → r .number ≡ 0
-    → (cache : List ℕ) → length cache ≤ 64
-    → let p = foundPalette (b .width) (b .height) r map flags in
-    (before after : List ℕ) (l : Listed) → Lists (b .width) (b .height) (b .bd) cache p before after l
-    → length (callList (b .width) (b .height) (b .bd) cache p) ≤ length before
-    → ListedWhole (b .width) (b .height) (b .bd) cache p before after l
+pub found-is-listed : FoundIsListed
 found-is-listed samples costs b map₀ cells flags₀ flags r answered zero cache cached before after l lists room =
     let s = foundIn samples costs b in
     let number = searchNumber samples costs b (length map₀) (length flags₀) in

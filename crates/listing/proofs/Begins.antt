@@ -3,7 +3,6 @@
 use mathlib.Core.Path.{_≡_, refl, sym, _∙_}
 use mathlib.Core.Bool.{Bool, true, false, cond, not, _||_}
 use mathlib.Core.List.{List, [], _∷_}
-use mathlib.Core.Logic.{_↔_}
 use Prim.Native.Nat.{ℕ}
 use Rattle.counts.specs.Counts.{orientSent}
 use lib.ListN.{length}
@@ -17,7 +16,7 @@ use Rattle.accept.specs.Palette.{Palette}
 use Rattle.accept.specs.Accepted.{orientOk, Accepted}
 use Rattle.accept.proofs.Accepted.{Facts, facts, line-index}
 use Rattle.emit.specs.Map.{orientWords, mapWords}
-use Rattle.listing.specs.Listing.{callList, Same, Begins}
+use Rattle.listing.specs.Listing.{callList, Same, BeginsExactlySame}
 use Rattle.listing.proofs.Splits.{Splits, nil, cons, weaken, then, tell, begins-same}
 use Rattle.listing.proofs.Colors.{color-splits}
 use Rattle.listing.proofs.Lines.{Fits, lines-splits}
@@ -58,8 +57,6 @@ same-calls : (w h bd : ℕ) (cache : List ℕ) (p q : Palette) → Same p q → 
 unfolding callList
 same-calls w h bd cache p q s = rw (s .colors, s .transposed, s .flags, s .map)
 
--- demand 3, first part
-pub begins-exactly-same : (w h bd : ℕ) (cache : List ℕ) (p q : Palette) → Accepted w h bd cache p → Accepted w h bd cache q
-    → Begins (callList w h bd cache p) (callList w h bd cache q) ↔ Same p q
+pub begins-exactly-same : BeginsExactlySame
 begins-exactly-same w h bd cache p q a b =
     (tell (palette-splits w h bd cache p q a b), λ s. begins-same _ _ (same-calls w h bd cache p q s))

@@ -1,8 +1,9 @@
--- The call list of a palette, its prediction, and what `list` and `pred` answer; when two palettes are the same, and when one
--- list begins another (document 01, 'How far the wording reaches', 3).
+-- The call list of a palette, its prediction, and what `list` and `pred` answer; when two palettes are the same, when one
+-- list begins another (document 01, 'How far the wording reaches', 3), and that the one is so exactly when the other is.
 use Prim.Native.Nat.{ℕ, _*_, _≤_, _<_}
 use mathlib.Core.Path.{_≡_}
 use mathlib.Core.Bool.{cond}
+use mathlib.Core.Logic.{_↔_}
 use mathlib.Core.List.{List, _++_, map}
 use lib.Dec.{eqb, leb}
 use lib.IntN.{pos}
@@ -11,7 +12,7 @@ use lib.ListN.{length, getD, drop}
 use Rattle.lists.specs.Written.{front}
 use Rattle.literals.specs.Words.{rawWidth}
 use Rattle.accept.specs.Palette.{Palette}
-use Rattle.accept.specs.Accepted.{refusal}
+use Rattle.accept.specs.Accepted.{refusal, Accepted}
 use Rattle.emit.specs.Colors.{colorWords}
 use Rattle.emit.specs.Map.{mapWords}
 use Rattle.listing.specs.declared.Listed.{Listed}
@@ -65,3 +66,11 @@ pub record Same (p q : Palette) : Type 0 where
 pub record Begins (u v : List ℕ) : Type 0 where
   pub few : length u ≤ length v
   pub words : (i : ℕ) → i < length u → getD u i 0 ≡ getD v i 0
+
+-- Demand 3, first part: for two accepted palettes of one width, height, depth and cache, one call list begins the other
+-- exactly when the palettes are the same. Proved in proofs/Begins.antt.
+abbrev pub BeginsExactlySame : Type 0
+BeginsExactlySame =
+    (width height depth : ℕ) (cache : List ℕ) (p q : Palette)
+    → Accepted width height depth cache p → Accepted width height depth cache q
+    → Begins (callList width height depth cache p) (callList width height depth cache q) ↔ Same p q

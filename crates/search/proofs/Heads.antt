@@ -1,4 +1,4 @@
--- Of a block whose tests have passed: the head and the lb of each size are finite.
+-- Of a block whose tests have passed: the head and the lb of each size are finite, and the sizes go in the order of their lb.
 use mathlib.Core.Path.{_≡_, refl, _∙_}
 use mathlib.Core.Bool.{Bool, true, false, cond}
 use mathlib.Core.List.{List, [], _∷_}
@@ -13,6 +13,7 @@ use Rattle.lists.specs.Counted.{bit}
 use Rattle.lists.proofs.Choice.{either-way}
 use Rattle.ieee.specs.Numbers.{nat}
 use Rattle.ieee.specs.Bounds.{Under}
+use Rattle.ieee.proofs.Compare.{under-finite}
 use Rattle.ieee.proofs.Bounds.{nat-within, rep-scaled, add-under, sub-under, mul-under, under-lt, under-mono}
 use Rattle.literals.specs.Literals.{literalBits}
 use Rattle.literals.proofs.Widths.{literal-bits-le}
@@ -22,8 +23,10 @@ use Rattle.groups.specs.declared.Histogram.{Histogram}
 use Rattle.groups.specs.Groups.{centersOf, errorOf}
 use Rattle.sizes.specs.declared.Block.{Block}
 use Rattle.counts.specs.Counts.{orientSent}
+use Rattle.sizes.specs.Order.{sizesTo, inOrder, Sorts}
 use Rattle.sizes.specs.Sizes.{headOf, leastOf, leastRow, fewestLines, sizeOf}
 use Rattle.sizes.proofs.Levels.{SizeTo}
+use Rattle.sizes.proofs.Sorted.{in-order}
 use Rattle.sizes.proofs.Parts.{fewest-most}
 use Rattle.search.specs.Search.{histogramIn}
 use Rattle.search.proofs.Passed.{Ready}
@@ -119,3 +122,10 @@ module _ {samples costs : List Float} {b : Block} {room lineRoom : ℕ} (ready :
         lb-sum (narrowOf (errorOf h k)) (b .lambda) (headOf costs b (centersOf h k)) (nat binary32 lines) (leastRow costs)
         (error-narrow (levelsIn samples) h (is-histogram ready is few) k some (has .1) (has .2))
         (lambda-within (b .lambda) (ready .weight) .0) head-under (nat-within binary32 lines 64 most (lit≤ tt) .0) row-under
+
+  -- so the sizes go by ascending lb, ties by fewer colours, each once
+  pub sizes-in-order : let lb : ℕ → Float = λ k. sizeOf costs b h k .lb in
+      Sorts lb (sizesTo (h .n)) (inOrder lb (sizesTo (h .n)))
+  sizes-in-order =
+      in-order (λ k. sizeOf costs b h k .lb) (h .n)
+      (λ k has. under-finite (sizeOf costs b h k .lb) (2053 * 2 ^ 29) (lb-under k has))
