@@ -307,9 +307,21 @@ fn bound_by_levels() -> usize {
     found(&samples, 16, 1, 1.0 / 16.0).palette.colors.len()
 }
 
-/// Two readings of document 01 that were settled on the original.
+/// The smallest block seen on which another size won in a process that takes subnormal numbers for
+/// 0: 18.5 and three 17.75s among 16s.
+fn narrowed() -> [f32; 16] {
+    let mut samples = [16.0; 16];
+    samples[0] = 18.5;
+    for place in [1, 6, 13] {
+        samples[place] = 17.75;
+    }
+    samples
+}
+
+/// Three readings of document 01 that were settled on the original.
 fn reading_checks() -> Vec<Check> {
     let ties = [vec![1.0], vec![2.0; 14], vec![3.0]].concat();
+    let narrow = found(&narrowed(), 16, 1, 0.0);
     let stop = [vec![10.25; 3], vec![13.5; 6], vec![11.5; 7]].concat();
     let stopped = found(&stop, 16, 1, 0.375);
     vec![
@@ -322,6 +334,11 @@ fn reading_checks() -> Vec<Check> {
             "10.25 x3, 13.5 x6, 11.5 x7: stop at the bound",
             (stopped.palette.colors.len(), stopped.bits),
             (3, 66.0),
+        ),
+        check(
+            "18.5, 17.75 x3, 16 x12: an error is narrowed by its bits",
+            (narrow.palette.colors, narrow.bits),
+            (vec![16, 18, 19], 69.0),
         ),
     ]
 }

@@ -1,5 +1,6 @@
-// Runs document 01's worked blocks that are searched, and two blocks on which a reading of it shows
-// (docs/DECISIONS.md): ties between cuts are ties of f64, and the sizes stop at a bound not below the best. Each
+// Runs document 01's worked blocks that are searched, and three blocks on which a reading of it shows
+// (docs/DECISIONS.md): ties between cuts are ties of f64, the sizes stop at a bound not below the best, and an error is
+// narrowed by its bits. Each
 // prints a line; the expected lines are typed from the document and the readings, never from our answers.
 // All blocks have bd 8 and costs 0; lambda is 1 where none is named. Functions here may have a `requires`.
 ghost use Prim.Native.Nat.{_<_, _≤_, _*_};
@@ -268,6 +269,35 @@ fn print_stop() {
     print_estimate(row.estimate);
 }
 
+// The smallest block on which another size won where the float unit takes subnormal numbers for 0.
+fn print_narrowed() {
+    let row = searched(
+        [
+            18.5,
+            17.75,
+            16.0,
+            16.0,
+            16.0,
+            16.0,
+            17.75,
+            16.0,
+            16.0,
+            16.0,
+            16.0,
+            16.0,
+            16.0,
+            17.75,
+            16.0,
+            16.0,
+        ],
+        0.0,
+    );
+    let colors = row.colors;
+    io::write_all(1, b"18.5, three 17.75s, twelve 16s, lambda 0: colours");
+    print_colors(row.n, colors);
+    print_estimate(row.estimate);
+}
+
 fn main() {
     print_halves(b"10.0 and 10.4 only: ", 10.0, 10.4);
     print_cycle(b"32 levels: ", 32, 16);
@@ -279,4 +309,5 @@ fn main() {
     print_tens();
     print_ties();
     print_stop();
+    print_narrowed();
 }
