@@ -1,14 +1,14 @@
 -- The level of a sample, by the fields of its bits.
 use mathlib.Core.Path.{_≡_, refl, sym, ap, _∙_, subst}
-use mathlib.Core.Bool.{Bool, true, false, cond, not}
+use mathlib.Core.Bool.{Bool, true, false, cond}
 use Prim.Native.Nat.{ℕ, zero, suc, _+_, _-_, _*_, _/_, _%_, _^_, _≤_, _<_}
 use native.Mathlib.Nat.{add-mul-div-right, div-div-eq-div-mul, one-mul, mul-comm, mul-assoc}
 use native.Mathlib.Nat.{lt-of-not-le, not-le-of-lt, le-trans, lt-of-le-of-lt, lt-of-lt-of-le, le-of-mul-le-mul-right, mul-le-mul-left, mul-le-mul-right}
 use native.Mathlib.Nat.{mul-lt-mul-of-pos-right, div-eq-of-lt}
 use native.Mathlib.Omega.{arith}
-use lib.Dec.{T, eqb, lit≤, lit<}
+use lib.Dec.{eqb, lit≤, lit<}
 use lib.Pow.{pow-add, pow-pos, pow-mono}
-use lib.Ieee.{Float, nan, inf, fin, binary32, isNan, ofFields, ofBits}
+use lib.Ieee.{Float, nan, inf, fin, binary32, ofFields, ofBits}
 use lib.Ieee.Exact.{HasValue}
 use lib.Ieee.Nearest.{div-same}
 use lib.Ieee.Positive.{num, den, den-pos, value→cross}
@@ -16,10 +16,6 @@ use Rattle.ieee.specs.Bounds.{Under}
 use Rattle.ieee.proofs.Signs.{resign}
 use Rattle.samples.specs.Samples.{levelOf}
 use Rattle.samples.proofs.Fields.{fields-of, normal-value, subnormal-value}
-
-pub number : (x : Float) (A : ℕ) → Under x A → T (not (isNan x))
-unfolding isNan
-number (fin s m e) A u = tt
 
 pub level-sign : (s : Bool) (x : Float) → levelOf (resign s x) ≡ levelOf x
 level-sign s nan = refl
@@ -94,14 +90,17 @@ module _ (b : ℕ) (B : b < 2147483648) (u : Under (ofBits binary32 b) 4095) whe
       let is : b / 8388608 ≡ suc i = omega arith in
       let v = value i is in
       let y = ofBits binary32 b in
+      let cross = value→cross y (m * 2 ^ i) (2 ^ 149) v in
       let large : m * 2 ^ i ≤ 4095 * 2 ^ 149 =
-      le-of-mul-le-mul-right (room (num y) (den y) (m * 2 ^ i) (2 ^ 149) (value→cross y (m * 2 ^ i) (2 ^ 149) v) (bound y 4095 u)) (den-pos y) in
-      let least : 2 ^ 23 ≤ m = omega arith in
-      let top : i < 138 = lt-of-not-le (λ (l : 138 ≤ i). not-le-of-lt (lit< tt) (le-trans (mul-le-mul-left (2 ^ 23) (pow-mono l)) (le-trans (mul-le-mul-right (2 ^ i) least) large))) in
+      le-of-mul-le-mul-right (room (num y) (den y) (m * 2 ^ i) (2 ^ 149) cross (bound y 4095 u)) (den-pos y) in
+      let least : 2 ^ 23 * 2 ^ i ≤ m * 2 ^ i = mul-le-mul-right (2 ^ i) (omega arith) in
+      let top : i < 138 = lt-of-not-le (λ (l : 138 ≤ i).
+      not-le-of-lt (lit< tt) (le-trans (mul-le-mul-left (2 ^ 23) (pow-mono l)) (le-trans least large))) in
       let k = 149 - b / 8388608 in
       let sum : 1 + i + k ≡ 149 = omega arith in
       let same : 2 * (m * 2 ^ i) * 2 ^ k ≡ m * 2 ^ 149 =
-      shuffle m (2 ^ i) (2 ^ k) ∙ ap (λ z. m * z) (sym (pow-add 2 (1 + i) k ∙ ap (λ z. z * 2 ^ k) (pow-add 2 1 i)) ∙ ap (λ z. 2 ^ z) sum) in (
+      shuffle m (2 ^ i) (2 ^ k)
+      ∙ ap (λ z. m * z) (sym (pow-add 2 (1 + i) k ∙ ap (λ z. z * 2 ^ k) (pow-add 2 1 i)) ∙ ap (λ z. 2 ^ z) sum) in (
         omega arith,
         sym (level-at y (m * 2 ^ i) (2 ^ 149) (pow-pos 149) v
             ∙ ap (λ z. (z + 1) / 2) (div-same (2 * (m * 2 ^ i)) (2 ^ 149) m (2 ^ k) (pow-pos 149) (pow-pos k) same)),

@@ -6,5 +6,6 @@ pub mod Signs
 pub mod Level
 pub mod Halves
 pub mod Patterns
+pub mod RangeBits
 pub mod Ranges
 pub mod Examples

@@ -1,7 +1,7 @@
 -- A number equals itself; a float is determined by its value, and the value of an f32 by its bits.
 use mathlib.Core.Path.{_≡_, refl, sym, ap, _∙_, subst}
 use mathlib.Core.Logic.{_⊎_, inl, inr}
-use mathlib.Core.Bool.{Bool, true, false, cond, false≢true}
+use mathlib.Core.Bool.{Bool, true, false, cond, not, false≢true}
 use Prim.Native.Nat.{ℕ, suc, _+_, _-_, _*_, _/_, _%_, _^_, _≤_, _<_}
 use native.Mathlib.Nat.{eq-or-lt-of-le, pow-suc}
 use native.Mathlib.Omega.{arith}
@@ -12,6 +12,7 @@ use lib.Ieee.Bits.{ofBits-toBits}
 use lib.Ieee.Exact.{HasValue}
 use lib.Ieee.Nearest.{div-same}
 use borrow.Author.Tests.{leb-true, leb-false, eq-eqb}
+use Rattle.ieee.specs.Bounds.{Under}
 use Rattle.ieee.proofs.Fractions.{same-through}
 use Rattle.samples.proofs.Fields.{normal-value, subnormal-value}
 
@@ -29,6 +30,10 @@ none (inf true) e = absurd (false≢true (sym e))
 none (inf false) e = absurd (false≢true (sym e))
 none (fin true m k) e = absurd (false≢true (sym e ∙ rw (eq-eqb (m * up k * down k) (m * up k * down k) refl) refl))
 none (fin false m k) e = absurd (false≢true (sym e ∙ rw (eq-eqb (m * up k * down k) (m * up k * down k) refl) refl))
+
+pub under-number : (x : Float) (A : ℕ) → Under x A → T (not (isNan x))
+unfolding isNan
+under-number (fin s m e) A u = tt
 
 -- ---- two floats that fit and have one value are the same
 same-bits : (f : Format) (x y : Float) (s : Bool) (a c : ℕ) → 0 < c → HasValue x s a c → HasValue y s a c

@@ -1,14 +1,15 @@
 -- Those numbers of a list that pass a test, and all numbers but one.
 use mathlib.Core.Path.{_≡_, refl, sym, ap}
-use mathlib.Core.Bool.{Bool, true, false, cond, not, _&&_, false≢true}
+use mathlib.Core.Bool.{Bool, true, false, cond, not, _&&_, _||_, false≢true}
 use mathlib.Core.List.{List, [], _∷_}
 use Prim.Native.Nat.{ℕ, suc, _≤_, _<_}
 use native.Mathlib.Omega.{arith}
 use lib.Dec.{eqb}
 use lib.ListN.{length}
-use borrow.Author.Tests.{eqb-false, ne-eqb}
+use borrow.Author.Tests.{eqb-true, eqb-false, ne-eqb}
 use Rattle.lists.specs.Counted.{elem}
-use Rattle.lists.proofs.Choice.{either-way}
+use Rattle.lists.proofs.Choice.{either-way, and-false}
+use Rattle.lists.proofs.Ascending.{Above, Ascending, above-lower, ascending-tail}
 use Rattle.groups.proofs.Each.{Each, each-weaken}
 use Rattle.sizes.specs.Order.{those}
 
@@ -48,6 +49,33 @@ those-most f [] = omega arith
 those-most f (k ∷ ks) =
     let deeper : length (those f ks) ≤ length ks = those-most f ks in
     either-way (λ z. length z ≤ suc (length ks)) (f k) (k ∷ those f ks) (those f ks) (omega arith) (omega arith)
+
+pub elem-those : (f : ℕ → Bool) (j : ℕ) (ks : List ℕ) → elem j (those f ks) ≡ f j && elem j ks
+unfolding elem those
+elem-those f j [] = sym (and-false (f j))
+elem-those f j (k ∷ ks) =
+    let deeper : elem j (those f ks) ≡ f j && elem j ks = elem-those f j ks in
+    go (eqb j k) refl (f k) refl deeper
+  where
+    go : (t : Bool) → eqb j k ≡ t → (p : Bool) → f k ≡ p → elem j (those f ks) ≡ f j && elem j ks
+        → elem j (cond p (k ∷ those f ks) (those f ks)) ≡ f j && (t || elem j ks)
+    go true i true e d = rw (i, eqb-true j k i, e) refl
+    go true i false e d = rw (d, eqb-true j k i, e) refl
+    go false i true e d = rw (i, d) refl
+    go false i false e d = rw d refl
+
+those-above : (f : ℕ → Bool) (c : ℕ) (ks : List ℕ) → Above c ks → Above c (those f ks)
+unfolding those
+those-above f c [] a = tt
+those-above f c (k ∷ ks) a =
+    let deeper : Above k (those f ks) = those-above f k ks (a .1) in
+    either-way (Above c) (f k) (k ∷ those f ks) (those f ks) (a .0, deeper) (above-lower c k (those f ks) (a .0) deeper)
+
+pub those-ascend : (f : ℕ → Bool) (ks : List ℕ) → Ascending ks → Ascending (those f ks)
+unfolding those
+those-ascend f [] a = tt
+those-ascend f (k ∷ ks) a =
+    either-way Ascending (f k) (k ∷ those f ks) (those f ks) (those-above f k ks a) (those-ascend f ks (ascending-tail k ks a))
 
 -- all but x
 abbrev pub without : ℕ → List ℕ → List ℕ

@@ -5,7 +5,7 @@ use lib.Dec.{T}
 use lib.Ieee.{inFloat, lt, eq, le, ofBits}
 use borrow.Author.Tests.{le-leb}
 use Rattle.samples.proofs.Values.{number, none}
-use Rattle.samples.proofs.Patterns.{range-bits, nat-number}
+use Rattle.samples.proofs.RangeBits.{range-bits, nat-number}
 use Rattle.samples.proofs.in_range.Statement.{statement}
 use Rattle.samples.proofs.in_range.Tie as tie
 

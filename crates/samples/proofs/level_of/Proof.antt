@@ -12,7 +12,8 @@ use Rattle.ieee.specs.Bounds.{Under}
 use Rattle.ieee.proofs.Signs.{resign}
 use Rattle.samples.specs.Samples.{levelOf}
 use Rattle.samples.proofs.Fields.{sign-of}
-use Rattle.samples.proofs.Level.{number, level-sign, under-sign, low, high}
+use Rattle.samples.proofs.Values.{under-number}
+use Rattle.samples.proofs.Level.{level-sign, under-sign, low, high}
 use Rattle.samples.proofs.level_of.Statement.{statement}
 use Rattle.samples.proofs.level_of.Tie as tie
 
@@ -35,7 +36,7 @@ held : (c : tie.Start) → T (fits binary32 (c .args .x))
 held c = subst T (sym (c .good .0 .1)) tt
 
 float-to-bits-b : tie.Need-float-to-bits-b
-float-to-bits-b c = number (c .args .x) 4095 (c .pre .0)
+float-to-bits-b c = under-number (c .args .x) 4095 (c .pre .0)
 
 add-m : tie.Need-add-m
 add-m c = search needs
