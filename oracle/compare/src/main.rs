@@ -3,6 +3,7 @@
 mod buffer;
 mod contexts;
 mod drive;
+mod environments;
 mod lists;
 mod searches;
 mod tally;
@@ -12,7 +13,7 @@ use drive::Run;
 use std::process::ExitCode;
 use std::time::Instant;
 
-const USAGE: &str = "usage: compare search|lists|contexts|texts SEED COUNT [THREADS]";
+const USAGE: &str = "usage: compare search|lists|contexts|texts|environments SEED COUNT [THREADS]";
 
 /// A thread for each core of a small machine.
 const THREADS: u64 = 2;
@@ -50,6 +51,7 @@ fn run() -> Result<bool, String> {
         "lists" => lists::compare(run),
         "contexts" => contexts::compare(run),
         "texts" => texts::compare(run),
+        "environments" => environments::compare(run),
         _ => Err(USAGE.to_string()),
     }
 }
