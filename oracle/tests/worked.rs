@@ -5,7 +5,7 @@ use palette_oracle::worked::{checks, Check};
 #[test]
 fn all_worked_blocks_hold() {
     let checks = checks();
-    assert_eq!(checks.len(), 30);
+    assert_eq!(checks.len(), 31);
     let wrong: Vec<String> = checks
         .iter()
         .filter(|c| !c.ok())
