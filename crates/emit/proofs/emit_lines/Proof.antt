@@ -70,6 +70,16 @@ loop-holds c = record { few = search needs; told = refl; small = search needs; s
 shared-slice-read-flag : tie.Need-shared-slice-read-flag Inv-loop μ-loop
 shared-slice-read-flag c = search needs
 
+-- first the words, then the room that they need: a wrong flag is refused at its word
+loop-again : tie.Need-loop-again Inv-loop μ-loop
+loop-again c =
+    let s = c .before .before .before .before .before .before .before .before .before .before .before .before in
+    let l = c .before .before .before .before .before .before .before .loop in
+    let e = c .before .before .before .emit-line in
+    turn (s .args .n) (s .args .transposed) (s .args .flags .now) (s .args .map .now) (s .args .w) (s .args .len) (s .args .lines) _ _ _ _ _ (l .l) (l .inv)
+    (c .before .before .before .before .before .before .loop-test .taken) (e .last .1 .1 .1 .1 .1 .1 .1 .1 .1 .0) (e .result) (c .wide .result)
+    (e .ensures .0) (e .ensures .1) (e .kept .1 .1 .1 .1 .1 .1 .1 .1 .1 .0) (c .wide .ensures .0) (c .wide .ensures .1)
+
 emit-line-requires : tie.Need-emit-line-requires Inv-loop μ-loop
 emit-line-requires c κs =
     let s = c .before .before .before .before .before .before .before .before in
@@ -92,15 +102,6 @@ add-l c = search needs
 
 loop-less : tie.Need-loop-less Inv-loop μ-loop
 loop-less c = search needs
-
-loop-again : tie.Need-loop-again Inv-loop μ-loop
-loop-again c =
-    let s = c .before .before .before .before .before .before .before .before .before .before .before .before in
-    let l = c .before .before .before .before .before .before .before .loop in
-    let e = c .before .before .before .emit-line in
-    turn (s .args .n) (s .args .transposed) (s .args .flags .now) (s .args .map .now) (s .args .w) (s .args .len) (s .args .lines) _ _ _ _ _ (l .l) (l .inv)
-    (c .before .before .before .before .before .before .loop-test .taken) (e .last .1 .1 .1 .1 .1 .1 .1 .1 .1 .0) (e .result) (c .wide .result)
-    (e .ensures .0) (e .ensures .1) (e .kept .1 .1 .1 .1 .1 .1 .1 .1 .1 .0) (c .wide .ensures .0) (c .wide .ensures .1)
 
 same-length : tie.Need-same-length Inv-loop μ-loop
 same-length c = search needs

@@ -25,7 +25,7 @@ shared-slice-read-t10 : tie.Need-shared-slice-read-t10 Inv-loop μ-loop
 shared-slice-read-t10 c = search needs
 
 color-of-requires : tie.Need-color-of-requires Inv-loop μ-loop
-color-of-requires c κs = c .before .before .before .before .before .pre .1 (c .before .before .loop .i) (omega arith)
+color-of-requires c κs = c .before .before .before .before .before .pre .1 _ (omega arith)
 
 value-of-requires : tie.Need-value-of-requires Inv-loop μ-loop
 value-of-requires c κs = search needs
