@@ -21,7 +21,7 @@ module _ (w h bd : ℕ) (cache : List ℕ) (p : Palette) where
   pub accepted-of-zero : refusal w h bd (length cache) p ≡ 0 → Accepted w h bd cache p
   unfolding refusal
   accepted-of-zero e =
-      let s = held (sidesOk w h) 0 _ e in
+      let s = held (sidesOk w h) _ _ e in
       let d = held (depthOk bd) 1 _ (s .1) in
       let c = held (colorsOk bd (p .colors)) 10 _ (d .1) in
       let o = held (orientOk w h (p .transposed)) 11 _ (c .1) in

@@ -59,7 +59,7 @@ module _ {samples costs : List Float} {b : Block} {cells lines : ℕ} (p : Passe
       let lambda = held (lambdaOk (b .lambda)) 3 _ (count .1) in
       let prices = held (costsOk costs) 4 _ (lambda .1) in
       let values = held (samplesOk (b .bd) samples) 5 _ (prices .1) in
-      let rooms = held (roomsOk w h cells lines) 6 _ (values .1) in
+      let rooms = held (roomsOk w h cells lines) _ _ (values .1) in
       let large = held (largeOk w h) 7 _ (rooms .1) in
       (sides .0, depth .0, count .0, lambda .0, prices .0, values .0, rooms .0, large .0)
 

@@ -43,16 +43,20 @@ orient : (c : tie.Else4) → let a = start (c .before .before .before .before .b
     orientOk (a .width) (a .height) (a .transposed) ≡ true
 orient c = sym (c .before .orient-ok .ensures) ∙ not-false _ (c .if4 .left)
 
+cache : (c : tie.Else5) → cacheOk (start (c .before .before .before .before .before .before .before) .args .cached) ≡ true
+unfolding cacheOk
+cache c = le-leb _ _ (c .if5 .left)
+
 -- 14 and 15 are left
 rest : (c : tie.Else5) → let s = start (c .before .before .before .before .before .before .before) in
     let w = s .args .width in
     let h = s .args .height in
     refusal w h (s .args .bd) (s .args .cached) (given s) ≡ cond (not (countsOk w h (given s))) 14 (cond (not (mapOk w h (given s))) 15 0)
-unfolding refusal cacheOk
+unfolding refusal
 rest c =
     let third = c .before .before .before in
     let second = third .before .before in
-    rw (sides (second .before .before), depth second, colors third, orient (c .before), le-leb _ _ (c .if5 .left)) refl
+    rw (sides (second .before .before), depth second, colors third, orient (c .before), cache c) refl
 
 counts : (c : tie.Else6) → let s = start (c .before .before .before .before .before .before .before .before .before) in
     countsOk (s .args .width) (s .args .height) (given s) ≡ true
@@ -107,7 +111,9 @@ unfolding refusal cacheOk
 returns-5 c =
     let third = c .before .before .before in
     let second = third .before .before in
-    rw (sides (second .before .before), depth second, colors third, orient (c .before), lt-leb _ _ (c .if5 .taken)) refl
+    let s = start (second .before .before) in
+    let long : cacheOk (s .args .cached) ≡ false = lt-leb _ _ (c .if5 .taken) in
+    rw (sides (second .before .before), depth second, colors third, orient (c .before), long) refl
 
 counts-ok-requires : tie.Need-counts-ok-requires
 counts-ok-requires c κs =

@@ -1,10 +1,12 @@
 use mathlib.Core.Path.{_≡_, refl, sym, _∙_}
 use mathlib.Core.Bool.{true, cond, not}
+use Prim.Native.Nat.{_*_}
 use native.Mathlib.Nat.{mul-le-mul, lt-of-le-of-lt}
 use denote.Ref.{now}
 use borrow.Author.Needs.{needs}
 use borrow.Author.Tests.{eq-eqb, ne-eqb}
-use lib.Dec.{lit<}
+use lib.Dec.{eqb, lit<}
+use lib.ListN.{length}
 use Rattle.lists.proofs.Choice.{fails, holds}
 use Rattle.lists.proofs.Counted.{within-at}
 use Rattle.accept.specs.Accepted.{sidesOk, depthOk}
@@ -37,6 +39,9 @@ sides c = holds _ _ (c .before .sides-ok .ensures) (c .if1 .left)
 depth : (c : tie.Else2) → depthOk (start2 c .args .b .bd) ≡ true
 unfolding depthOk
 depth c = holds _ _ (c .before .within .ensures) (c .if2 .left)
+
+count : (c : tie.Else3) → let a = start3 c .args in eqb (length (now (a .samples))) (a .b .width * a .b .height) ≡ true
+count c = eq-eqb _ _ (c .if3 .left)
 
 lambda : (c : tie.Else4) → lambdaOk (start3 (c .before .before) .args .b .lambda) ≡ true
 lambda c = holds _ _ (c .before .lambda-ok .ensures) (c .if4 .left)
@@ -86,7 +91,7 @@ returns-4 c = let e = c .before .before in
     rw (
       sides (e .before .before .before .before .before),
       depth (e .before .before),
-      eq-eqb _ _ (e .if3 .left),
+      count e,
       fails _ _ (c .before .lambda-ok .ensures) (c .if4 .taken),
     ) refl
 
@@ -99,7 +104,7 @@ returns-5 c = let e = c .before .before .before .before in
     rw (
       sides (e .before .before .before .before .before),
       depth (e .before .before),
-      eq-eqb _ _ (e .if3 .left),
+      count e,
       lambda (c .before .before),
       fails _ _ (c .before .costs-ok .ensures) (c .if5 .taken),
     ) refl
@@ -114,7 +119,7 @@ returns-6 c = let e = c .before .before .before .before .before .before in
     rw (
       sides (e .before .before .before .before .before),
       depth (e .before .before),
-      eq-eqb _ _ (e .if3 .left),
+      count e,
       lambda (c .before .before .before .before),
       costs (c .before .before),
       fails _ _ (c .before .samples-ok .ensures) (c .if6 .taken),
@@ -135,7 +140,7 @@ rest c = let e = c .before .before .before .before .before .before in
     rw (
       sides (e .before .before .before .before .before),
       depth (e .before .before),
-      eq-eqb _ _ (e .if3 .left),
+      count e,
       lambda (c .before .before .before .before),
       costs (c .before .before),
       samples c,
