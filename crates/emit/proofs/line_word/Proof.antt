@@ -1,11 +1,12 @@
 use Rattle.emit.proofs.line_word.Statement.{statement}
 use Rattle.emit.proofs.line_word.Tie as tie
 
-cell-word-requires : tie.Need-cell-word-requires
-cell-word-requires c κs = rw (c .if1 .taken) at (c .before .before .before .pre)
-
+-- first what is told of the word, then what its place needs: a wrong place is refused at the word
 returns : tie.Need-returns
 returns c = rw (c .before .if1 .taken) (c .cell-word .ensures)
+
+cell-word-requires : tie.Need-cell-word-requires
+cell-word-requires c κs = rw (c .if1 .taken) at (c .before .before .before .pre)
 
 cell-word-requires-2 : tie.Need-cell-word-requires-2
 cell-word-requires-2 c κs = rw (c .if1 .left) at (c .before .before .before .pre)

@@ -1,7 +1,8 @@
 use Rattle.map_search.proofs.Walk.{Turned, goesOn, turned, rest-none}
 use Rattle.map_search.specs.declared.Choice.{Choice}
-use Rattle.map_search.specs.Lines.{Walk, restOf, mapOf}
+use Rattle.map_search.specs.Lines.{Walk, reached, restOf, mapOf}
 use Rattle.near.specs.Near.{Below}
+use mathlib.Core.Bool.{Bool, true, false}
 use mathlib.Core.List.{List}
 use native.Mathlib.Nat.{sub-zero}
 use borrow.Author.Needs.{needs}
@@ -64,6 +65,12 @@ module _ (c : tie.After-plus Inv-loop μ-loop) where
       (a .s .lines - (at + 1)) (at + 1) longer
   turn = sym (inside .before .before .loop .inv .0) ∙ line .rest-same
 
+  -- whether the line reaches the bound
+  abbrev stops : Bool
+  stops =
+      let a = start .args in
+      reached (now (a .src)) (now (a .costs)) (now (a .colors)) (a .n) (a .lambda) (a .s) (a .head) (a .bound) longer
+
   map-kept : length put ≡ length (now (start .args .map))
   map-kept = line .map-kept ∙ inside .before .before .loop .inv .1
 
@@ -99,7 +106,10 @@ same-length-2 : tie.Need-same-length-2 Inv-loop μ-loop
 same-length-2 c = flags-kept (c .before .before .before)
 
 returns : tie.Need-returns Inv-loop μ-loop
-returns c = rw (turn (c .before .before .before), c .if2 .taken) (record { result = refl; cells = refl; signs = refl })
+returns c =
+    let p = c .before .before .before in
+    let past : stops p ≡ true = c .if2 .taken in
+    rw (turn p, past) (record { result = refl; cells = refl; signs = refl })
 
 wide-requires : tie.Need-wide-requires Inv-loop μ-loop
 wide-requires c κs = search needs
@@ -114,8 +124,9 @@ loop-less c = omega (arith, inside (c .before .before .before .before) .if1 .tak
 
 loop-again : tie.Need-loop-again Inv-loop μ-loop
 loop-again c =
-    let p = c .before .before .before .before in (
-      rw (c .wide .ensures) (sym (turn p ∙ rw (c .before .if2 .left) refl)),
+    let p = c .before .before .before .before in
+    let below : stops p ≡ false = c .before .if2 .left in (
+      rw (c .wide .ensures) (sym (turn p ∙ rw below refl)),
       map-kept p,
       flags-kept p,
       line p .below,

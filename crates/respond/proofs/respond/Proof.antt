@@ -1,7 +1,7 @@
 -- The three ends: the text's number, text after the last row, and the palette. Assumes nothing.
 use native.Mathlib.Omega.{arith}
 use borrow.Author.Needs.{needs}
-use mathlib.Core.Path.{sym, ap, _∙_}
+use mathlib.Core.Path.{_≡_, sym, ap, _∙_}
 use mathlib.Core.List.{List}
 use Prim.Native.Nat.{ℕ}
 use lib.ListN.{length}
@@ -50,6 +50,10 @@ print-refused-requires-2 c κs = search needs
 
 same-length-2 : tie.Need-same-length-2
 same-length-2 c = search needs
+
+-- past the second test the text ends with its last row
+ended : (c : tie.Else2) → c .before .before .places-of .result .end ≡ length (now (c .before .before .before .before .before .before .before .before .before .before .before .before .before .before .before .before .args .s))
+ended c = c .if2 .left
 
 returns-2 : tie.Need-returns-2
 returns-2 c =
@@ -104,7 +108,7 @@ returns-3 c =
     let lines = c .before .before .before .before .before .before .before .lines-in in
     let cells = c .before .before .before .before .before .before .before .before .cells-in in
     let end = ap (λ (x : Places). x .end) (c .before .before .before .before .before .before .before .before .before .before .before .places-of .ensures .0) in
-    let e = read-shown (now (start .s)) (r .result) (r .ensures .0 .0) (r .ensures .0 .1) (c .before .before .before .before .before .before .before .before .before .before .before .before .if1 .left) (sym end ∙ c .before .before .before .before .before .before .before .before .before .if2 .left)
+    let e = read-shown (now (start .s)) (r .result) (r .ensures .0 .0) (r .ensures .0 .1) (c .before .before .before .before .before .before .before .before .before .before .before .before .if1 .left) (sym end ∙ ended (c .before .before .before .before .before .before .before .before .before))
     _ _ _ _ _ _ _ _ (lines .result) (cells .result) (omega arith, omega arith, omega arith, omega arith)
     (b .0) (b .1 .0) (b .1 .1 .0) (b .1 .1 .1) (lines .ensures .0) (cells .ensures .0) in
     let p = c .before .before .print-palette .ensures in
