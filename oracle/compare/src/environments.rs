@@ -17,17 +17,21 @@ const UPWARD: u32 = DEFAULT | 0x4000;
 const LEAST_SAMPLE: f32 = 1.0 / (1u64 << 63) as f32;
 const LEAST_PRICE: f32 = 1.0 / (1u64 << 40) as f32;
 
-/// A different answer is an error, but for direct calls on tiny input, whose answers are counted.
+/// A different answer is an error. On tiny input a direct call must give the same number, and
+/// other answers are only counted.
 pub fn compare(run: Run) -> Result<bool, String> {
     drive(run, |index, tally| {
         let (request, _) = search_request(run.seed, index);
         let due = direct(&request, DEFAULT);
-        let flushed = direct(&request, FLUSHING) == due;
-        let tiny = is_tiny(&request);
-        let verdict = if flushed { "same" } else { "differs" };
+        let flushed = direct(&request, FLUSHING);
+        let (tiny, equal) = (is_tiny(&request), flushed == due);
+        let verdict = if equal { "same" } else { "differs" };
         let input = if tiny { "tiny" } else { "ordinary" };
         tally.kind("direct", format!("{input} input, {verdict}"));
-        let mut same = vec![("direct, flushing", flushed || (tiny && due.number == 0))];
+        let mut same = vec![
+            ("direct, number", flushed.number == due.number),
+            ("direct, answer", equal || tiny),
+        ];
         if let Ok(costs) = Costs::from_slice(&request.costs) {
             let due = packaged(&request, &costs, DEFAULT);
             same.extend([
