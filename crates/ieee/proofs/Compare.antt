@@ -2,7 +2,7 @@
 use mathlib.Core.Path.{_≡_, refl}
 use mathlib.Core.Bool.{Bool, true, false, false≢true}
 use Prim.Native.Nat.{ℕ, zero, suc, _+_, _*_, _≤_, _<_, zero-le}
-use native.Mathlib.Nat.{le-of-lt, le-antisymm, mul-pos, zero-lt-suc, zero-mul}
+use native.Mathlib.Nat.{le-refl, le-of-lt, le-antisymm, mul-pos, zero-lt-suc, zero-mul}
 use native.Mathlib.Omega.{arith}
 use lib.Dec.{ltb}
 use lib.Ieee.{Float, nan, inf, fin, up, down, below, level, lt, eq}
@@ -64,6 +64,15 @@ below-tie false true a b h k = both a b (ltb-false 0 (b + a) k)
     both zero zero h = refl
     both zero (suc b) h = absurd (omega arith)
     both (suc a) b h = absurd (omega arith)
+
+-- no float is below itself
+pub lt-itself : (x : Float) → lt x x ≡ false
+unfolding lt
+lt-itself nan = refl
+lt-itself (inf true) = refl
+lt-itself (inf false) = refl
+lt-itself (fin true m e) = le-ltb (m * up e * down e) (m * up e * down e) (le-refl (m * up e * down e))
+lt-itself (fin false m e) = le-ltb (m * up e * down e) (m * up e * down e) (le-refl (m * up e * down e))
 
 abbrev pub Finite : Float → Type 0
 Finite nan = ⊥

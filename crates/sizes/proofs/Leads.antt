@@ -10,7 +10,7 @@ use lib.Dec.{eqb}
 use lib.Ieee.{Float, lt}
 use borrow.Author.Tests.{eqb-false}
 use Rattle.lists.proofs.Ascending.{Above, above-lower}
-use Rattle.ieee.proofs.Compare.{Finite, at-most-trans, lt-asym, lt-tie}
+use Rattle.ieee.proofs.Compare.{Finite, lt-itself, at-most-trans, lt-asym, lt-tie}
 use Rattle.groups.proofs.Each.{Each}
 use Rattle.cells.specs.Cell.{cheapest}
 use Rattle.sizes.specs.Order.{Before}
@@ -27,17 +27,13 @@ module _ (lb : ℕ → Float) (P : ℕ → Type 0) (finite : (k : ℕ) → P k �
   abbrev pub Leads : ℕ → ℕ → Type 0
   Leads c j = (lt (lb j) (lb c) ≡ false) × (lt (lb c) (lb j) ≡ false → c ≤ j)
 
-  leads-itself : (k : ℕ) → P k → Leads k k
-  leads-itself k p = (go (lt (lb k) (lb k)) refl, λ e. le-refl k)
-    where
-      go : (t : Bool) → lt (lb k) (lb k) ≡ t → t ≡ false
-      go true e = sym e ∙ asym k k p p e
-      go false e = refl
+  leads-itself : (k : ℕ) → Leads k k
+  leads-itself k = (lt-itself (lb k), λ e. le-refl k)
 
   pub cheapest-leads : (a : ℕ) (bs : List ℕ) → Above a bs → P a → Each P bs
       → Leads (cheapest lb a bs) a × Each (Leads (cheapest lb a bs)) bs
   unfolding cheapest
-  cheapest-leads a [] up p e = (leads-itself a p, tt)
+  cheapest-leads a [] up p e = (leads-itself a, tt)
   cheapest-leads a (b ∷ bs) up p e =
       let later = cheapest-leads b bs (up .1) (e .0) (e .1) in
       let earlier = cheapest-leads a bs (above-lower a b bs (up .0) (up .1)) p (e .1) in

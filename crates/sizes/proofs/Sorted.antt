@@ -1,6 +1,7 @@
 -- The law of `inOrder`: where no lb is infinite or NaN, it has every size once, by ascending lb, ties by fewer colours.
 use mathlib.Core.Path.{_≡_, refl, sym, ap, _∙_}
-use mathlib.Core.Bool.{Bool, true, false, not, _&&_, _||_}
+use mathlib.Core.Bool.{Bool, true, false, not, _&&_, _||_, false≢true}
+use mathlib.Core.Logic.{inl, inr}
 use mathlib.Core.List.{List, [], _∷_}
 use Prim.Native.Nat.{ℕ, zero, suc, _≤_}
 use native.Mathlib.Nat.{le-refl}
@@ -11,7 +12,7 @@ use lib.Ieee.{Float}
 use borrow.Author.Tests.{eqb-true}
 use Rattle.lists.specs.Counted.{elem, above, ascending}
 use Rattle.lists.proofs.Ascending.{Ascending, ascending-is}
-use Rattle.ieee.proofs.Compare.{Finite}
+use Rattle.ieee.proofs.Compare.{Finite, lt-itself}
 use Rattle.groups.proofs.Each.{Each, each-weaken, each-both, each-in}
 use Rattle.cells.specs.Cell.{cheapest}
 use Rattle.sizes.specs.Order.{allSizes, sizesTo, ordered, inOrder, Before, Sorted, Sorts}
@@ -56,6 +57,11 @@ ordered-elem lb (suc m) (k ∷ ks) h j =
     go : (t : Bool) → eqb j (cheapest lb k ks) ≡ t → t || (not t && elem j (k ∷ ks)) ≡ elem j (k ∷ ks)
     go true e = sym (rw (eqb-true j (cheapest lb k ks) e) (cheapest-in lb k ks))
     go false e = refl
+
+-- none stands twice: no size goes before itself
+pub never-itself : (lb : ℕ → Float) (k : ℕ) → Before lb k k → ⊥
+never-itself lb k (inl e) = false≢true (sym (lt-itself (lb k)) ∙ e)
+never-itself lb k (inr e) = omega (arith, e .1)
 
 -- the law
 pub in-order : (lb : ℕ → Float) (levels : ℕ) → ((k : ℕ) → SizeTo levels k → Finite (lb k))
