@@ -5,7 +5,6 @@ pub mod Narrowing
 pub mod Signs
 pub mod Level
 pub mod Halves
-pub mod Patterns
-pub mod RangeBits
+pub mod BelowZero
 pub mod Ranges
 pub mod Examples

@@ -42,16 +42,14 @@ pub fn top_level(bd: u32) -> u16
     (1u16 << bd) - 1
 }
 
-// Whether x is within 0..top. The bits of floats without a sign grow with the value, and of those with one only -0.0 is
-// within. A test on the bits holds for subnormals too where the float unit takes them for 0.
+// Whether x is within 0..top. A NaN is not at most top, and of the floats with a sign only -0.0 is within: the bits tell it
+// from a negative subnormal, which `x >= 0.0` does not where the float unit takes subnormals for 0.
 fn in_range(x: f32, top: u32) -> bool
     requires { ⌜ top ≤ 2 ^ 24 ⌝ }
     ensures { λ r. ⌜ r ≡ inRange top x ⌝ }
 {
-    if x == x {
-        let last = f32::to_bits(top as f32);
-        let b = f32::to_bits(x);
-        return (b <= last) | (b == 0x8000_0000);
+    if x <= top as f32 {
+        return f32::to_bits(x) <= 0x8000_0000;
     }
     false
 }
