@@ -102,7 +102,7 @@ static bool tiny_cost_counts(search_function *search) {
 }
 
 /*
- * By itself the search knows the numbers that it tests and narrows by their bits. What it adds up
+ * By itself the search tells signs, levels and narrowed errors by their bits. What it adds up
  * is still the environment's: tiny_cost_counts is asked of the default one only.
  */
 static void direct(void) {
