@@ -49,6 +49,7 @@ mod palette;
 mod pred;
 mod refusal;
 mod search;
+pub mod sheet;
 pub mod tables;
 
 pub use calls::{replay, Call, Calls, Coder, UnknownWord};

@@ -2,7 +2,9 @@
 //! arithmetic and square roots are used, which IEEE 754 fixes to the bit.
 
 use crate::lettering;
-use crate::pgm::Sheet;
+use crate::pgm::Scan;
+use palette_station::sheet::Sheet;
+use palette_station::Refusal;
 
 const WIDTH: usize = 2480;
 const HEIGHT: usize = 3508;
@@ -16,21 +18,17 @@ pub type Point = (f64, f64);
 /// A rectangle: left, top, right, bottom.
 type Area = (f64, f64, f64, f64);
 
-pub fn sample() -> Sheet {
+pub fn sample() -> Result<Scan, Refusal> {
     let mut paper = Paper {
-        sheet: Sheet {
-            width: WIDTH,
-            height: HEIGHT,
-            maxval: 255,
-            samples: vec![PAPER; WIDTH * HEIGHT],
-        },
+        samples: vec![PAPER; WIDTH * HEIGHT],
     };
     frame(&mut paper);
     wheel(&mut paper, (1240.0, 1080.0));
     section(&mut paper);
     shading(&mut paper, (300.0, 2780.0, 900.0, 3140.0));
     lettering_of(&mut paper);
-    paper.sheet
+    let sheet = Sheet::new(WIDTH, HEIGHT, 8, paper.samples)?;
+    Ok(Scan { sheet, maxval: 255 })
 }
 
 fn frame(paper: &mut Paper) {
@@ -110,7 +108,7 @@ fn shading(paper: &mut Paper, area: Area) {
         for x in left as usize..right as usize {
             let slope = ((x - left as usize) / 2 + (y - top as usize) / 3) % 400;
             let shade = slope.min(399 - slope) as u16;
-            paper.sheet.samples[y * WIDTH + x] = 235 - shade;
+            paper.samples[y * WIDTH + x] = 235 - shade;
         }
     }
     paper.rectangle((left, top, right, bottom), 2.0);
@@ -143,7 +141,7 @@ fn lettering_of(paper: &mut Paper) {
 }
 
 pub struct Paper {
-    sheet: Sheet,
+    samples: Vec<u16>,
 }
 
 impl Paper {
@@ -190,7 +188,7 @@ impl Paper {
             for x in columns.clone() {
                 let share = cover((x as f64 + 0.5, y as f64 + 0.5)).clamp(0.0, 1.0);
                 let level = PAPER - (share * STEPS) as u16 * STEP_HEIGHT;
-                let sample = &mut self.sheet.samples[y * WIDTH + x];
+                let sample = &mut self.samples[y * WIDTH + x];
                 *sample = level.min(*sample);
             }
         }

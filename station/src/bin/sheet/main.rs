@@ -1,10 +1,8 @@
 //! `sheet`: palettes and call lists for a whole scanned sheet. `sheet --help` says how.
 
-mod blocks;
 mod costs;
 mod drawing;
 mod lettering;
-mod lists;
 mod options;
 mod pgm;
 mod picture;
@@ -12,17 +10,17 @@ mod progress;
 mod summary;
 mod whole;
 
-use blocks::{Row, Settings};
 use options::{Options, Request};
+use palette_station::sheet::{Form, Searched, Settings};
 use palette_station::Costs;
-use pgm::Sheet;
+use pgm::Scan;
 use progress::Progress;
 use std::env;
 use std::fs::File;
-use std::io::{self, BufReader, Write};
-use std::path::Path;
+use std::io::{self, BufReader, BufWriter, Write};
 use std::process::ExitCode;
 use std::time::Instant;
+use summary::Times;
 
 fn main() -> ExitCode {
     match run() {
@@ -45,38 +43,32 @@ fn run() -> Result<(), String> {
 }
 
 fn work(options: &Options) -> Result<(), String> {
-    let outputs = [&options.lists, &options.picture, &options.sample];
-    for path in outputs.into_iter().flatten() {
+    let start = Instant::now();
+    for path in options.files() {
         whole::probe(path)?;
     }
-    let settings = settings(options)?;
-    let sheet = sheet(options)?;
-    let start = Instant::now();
-    let progress = Progress::new();
-    let rows = blocks::search_all(&sheet, &settings, |done, rows| progress.show(done, rows))?;
-    drop(progress);
-    let time = start.elapsed();
-    write_files(options, &sheet, &rows)?;
-    summary::write(&sheet, &rows, time, &mut io::stdout().lock()).map_err(cannot_print)
+    let costs = match &options.costs {
+        Some(path) => costs::read(path)?,
+        None => Costs::default(),
+    };
+    let scan = scan(options)?;
+    let (searched, search) = search(options, costs, &scan)?;
+    write_out(options, &scan, &searched.form)?;
+    let all = start.elapsed();
+    let times = Times { search, all };
+    // What is asked for on standard output stands there alone.
+    let printed = if options.prints_lists() {
+        summary::write(&searched, &times, &mut io::stderr().lock())
+    } else {
+        summary::write(&searched, &times, &mut io::stdout().lock())
+    };
+    printed.map_err(cannot_print)
 }
 
-fn settings(options: &Options) -> Result<Settings, String> {
-    Ok(Settings {
-        side: options.side,
-        lambda: options.lambda,
-        costs: match &options.costs {
-            Some(path) => costs::read(path)?,
-            None => Costs::default(),
-        },
-        threads: options.threads,
-        keep_words: options.lists.is_some(),
-    })
-}
-
-fn sheet(options: &Options) -> Result<Sheet, String> {
+fn scan(options: &Options) -> Result<Scan, String> {
     match options.input.as_deref() {
-        None => Ok(drawing::sample()),
-        Some(path) if path == Path::new("-") => {
+        None => drawing::sample().map_err(|e| e.to_string()),
+        Some(path) if options::is_dash(path) => {
             pgm::read(&mut io::stdin().lock()).map_err(|e| format!("standard input: {e}"))
         }
         Some(path) => File::open(path)
@@ -86,21 +78,51 @@ fn sheet(options: &Options) -> Result<Sheet, String> {
     }
 }
 
-/// All files are whole before the first one takes its place.
-fn write_files(options: &Options, sheet: &Sheet, rows: &[Row]) -> Result<(), String> {
+fn search(
+    options: &Options,
+    costs: Costs,
+    scan: &Scan,
+) -> Result<(Searched, std::time::Duration), String> {
+    let default = Settings::of_depth(scan.sheet.bd());
+    let settings = Settings {
+        side: options.side,
+        levels: options.levels,
+        lambda: options.lambda.unwrap_or(default.lambda),
+        costs,
+    };
+    let start = Instant::now();
+    let progress = Progress::new();
+    let searched = scan
+        .sheet
+        .search(&settings, options.threads, |done, rows| {
+            progress.show(done, rows)
+        })
+        .map_err(|e| e.to_string())?;
+    Ok((searched, start.elapsed()))
+}
+
+/// All files are whole, and standard output is written, before the first file takes its place.
+fn write_out(options: &Options, scan: &Scan, form: &Form) -> Result<(), String> {
     let mut files = Vec::new();
-    if let Some(path) = &options.lists {
-        files.push(whole::stage(path, |out| lists::write(rows, out))?);
+    if let Some(path) = options.lists_file() {
+        files.push(whole::stage(path, |out| form.write(out))?);
     }
     if let Some(path) = &options.picture {
-        files.push(whole::stage(path, |out| {
-            picture::write(sheet, options.side, rows, out)
-        })?);
+        files.push(whole::stage(path, |out| picture::write(scan, form, out))?);
     }
     if let Some(path) = &options.sample {
-        files.push(whole::stage(path, |out| pgm::write(sheet, out))?);
+        files.push(whole::stage(path, |out| pgm::write(scan, out))?);
+    }
+    if options.prints_lists() {
+        print_lists(form).map_err(cannot_print)?;
     }
     whole::commit(files)
+}
+
+fn print_lists(form: &Form) -> io::Result<()> {
+    let mut output = BufWriter::with_capacity(1 << 16, io::stdout().lock());
+    form.write(&mut output)?;
+    output.flush()
 }
 
 fn cannot_print(error: io::Error) -> String {

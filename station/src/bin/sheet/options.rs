@@ -1,7 +1,9 @@
 //! The command line.
 
 use crate::whole;
+use palette_station::sheet::Levels;
 use std::ffi::{OsStr, OsString};
+use std::ops::RangeInclusive;
 use std::path::{Path, PathBuf};
 use std::str::FromStr;
 
@@ -13,13 +15,18 @@ and prints a summary. FILE is a PGM scan (P5, maxval 255 to 4095), or - for
 standard input. Without FILE a sample drawing is made and searched.
 
   --side N        side of a block, 1 to 64 (64); blocks at the edges are smaller
-  --lambda X      weight of the bits, 0 to 1048576 (60)
+  --levels N      first round the samples to N evenly spaced greys, 2 to 32
+                  (as scanned); a noisy scan has too many for palettes, try 16
+  --lambda X      weight of the bits, 0 to 1048576 (60 at 8 bits, four times as
+                  much for each bit more)
   --costs FILE    301 costs, each 0 to 32, separated by white space
                   (computed from the tables)
   --threads N     1 to 256 (1); the output does not depend on it
-  --lists FILE    write the call lists: per block a line with the number of
-                  calls, then kind, first and second of each; for a refused
-                  block 0 and the refusal's number
+  --lists FILE    write what the sheet is known by: sides, depth and options,
+                  then per block its call list, or its number with its level or
+                  its samples; - for standard output, the summary then goes to
+                  standard error. As a short key:
+                  sheet scan.pgm --lists - | sha256sum
   --picture FILE  write the sheet as PPM, its blocks tinted: found with 2 to 8
                   colours green to blue to violet; refused for its sides (8)
                   yellow, one level (9) grey, more than 32 levels (10) red
@@ -28,18 +35,45 @@ standard input. Without FILE a sample drawing is made and searched.
 ";
 
 const MOST_SIDE: usize = 64;
+const FEWEST_LEVELS: usize = 2;
+const MOST_LEVELS: usize = 32;
 const MOST_THREADS: usize = 256;
 const MOST_LAMBDA: f32 = 1_048_576.0;
 
 pub struct Options {
     pub input: Option<PathBuf>,
     pub side: usize,
-    pub lambda: f32,
+    pub levels: Option<Levels>,
+    /// None: as the depth has it.
+    pub lambda: Option<f32>,
     pub threads: usize,
     pub costs: Option<PathBuf>,
     pub lists: Option<PathBuf>,
     pub picture: Option<PathBuf>,
     pub sample: Option<PathBuf>,
+}
+
+impl Options {
+    /// The files that are written.
+    pub fn files(&self) -> impl Iterator<Item = &Path> {
+        let others = [self.picture.as_deref(), self.sample.as_deref()];
+        self.lists_file()
+            .into_iter()
+            .chain(others.into_iter().flatten())
+    }
+
+    pub fn lists_file(&self) -> Option<&Path> {
+        self.lists.as_deref().filter(|path| !is_dash(path))
+    }
+
+    pub fn prints_lists(&self) -> bool {
+        self.lists.as_deref().is_some_and(is_dash)
+    }
+}
+
+/// Standard input or output.
+pub fn is_dash(path: &Path) -> bool {
+    path == Path::new("-")
 }
 
 pub enum Request {
@@ -77,7 +111,8 @@ fn defaults() -> Options {
     Options {
         input: None,
         side: MOST_SIDE,
-        lambda: 60.0,
+        levels: None,
+        lambda: None,
         threads: 1,
         costs: None,
         lists: None,
@@ -99,8 +134,9 @@ fn set_input(options: &mut Options, word: OsString) -> Result<(), String> {
 }
 
 fn known(word: &OsStr) -> Result<&'static str, String> {
-    const NAMES: [&str; 7] = [
+    const NAMES: [&str; 8] = [
         "--side",
+        "--levels",
         "--lambda",
         "--threads",
         "--costs",
@@ -116,9 +152,13 @@ fn known(word: &OsStr) -> Result<&'static str, String> {
 
 fn set(options: &mut Options, name: &str, value: OsString) -> Result<(), String> {
     match name {
-        "--side" => options.side = whole_number(name, &value, MOST_SIDE)?,
-        "--threads" => options.threads = whole_number(name, &value, MOST_THREADS)?,
-        "--lambda" => options.lambda = lambda(&value)?,
+        "--side" => options.side = whole_number(name, &value, 1..=MOST_SIDE)?,
+        "--levels" => {
+            let count = whole_number(name, &value, FEWEST_LEVELS..=MOST_LEVELS)?;
+            options.levels = Levels::new(count as u32);
+        }
+        "--threads" => options.threads = whole_number(name, &value, 1..=MOST_THREADS)?,
+        "--lambda" => options.lambda = Some(lambda(&value)?),
         "--costs" => options.costs = Some(value.into()),
         "--lists" => options.lists = Some(value.into()),
         "--picture" => options.picture = Some(value.into()),
@@ -127,12 +167,13 @@ fn set(options: &mut Options, name: &str, value: OsString) -> Result<(), String>
     Ok(())
 }
 
-fn whole_number(name: &str, value: &OsStr, most: usize) -> Result<usize, String> {
+fn whole_number(name: &str, value: &OsStr, range: RangeInclusive<usize>) -> Result<usize, String> {
     match parsed(value) {
-        Some(number) if (1..=most).contains(&number) => Ok(number),
+        Some(number) if range.contains(&number) => Ok(number),
         _ => {
+            let (least, most) = range.into_inner();
             let value = value.to_string_lossy();
-            Err(format!("{name} is 1 to {most}, not {value}"))
+            Err(format!("{name} is {least} to {most}, not {value}"))
         }
     }
 }
@@ -156,16 +197,12 @@ fn check(options: &Options) -> Result<(), String> {
     if options.input.is_some() && options.sample.is_some() {
         return Err("--sample goes without a sheet".to_string());
     }
-    let read = [&options.input, &options.costs];
-    let mut taken: Vec<PathBuf> = read
-        .into_iter()
-        .flatten()
-        .map(|p| whole::place(p))
-        .collect();
-    for path in [&options.lists, &options.picture, &options.sample] {
-        let Some(path) = path else { continue };
-        if path == Path::new("-") {
-            return Err("only the sheet may be -".to_string());
+    let input = options.input.as_deref().filter(|path| !is_dash(path));
+    let read = [input, options.costs.as_deref()].into_iter().flatten();
+    let mut taken: Vec<PathBuf> = read.map(whole::place).collect();
+    for path in options.files() {
+        if is_dash(path) {
+            return Err("only the sheet and --lists may be -".to_string());
         }
         let place = whole::place(path);
         if taken.contains(&place) {

@@ -1,5 +1,6 @@
 //! A scanned sheet and its file form, PGM (P5).
 
+use palette_station::sheet::Sheet;
 use std::io::{self, Read, Write};
 
 /// Room for two bytes a sample stays within 2 GiB.
@@ -7,22 +8,14 @@ const MOST_SAMPLES: usize = 1 << 30;
 const LEAST_MAXVAL: usize = 255;
 const MOST_MAXVAL: usize = 4095;
 
-pub struct Sheet {
-    pub width: usize,
-    pub height: usize,
+pub struct Scan {
+    pub sheet: Sheet,
+    /// White, as the file has it. The sheet has only its depth.
     pub maxval: u16,
-    pub samples: Vec<u16>,
-}
-
-impl Sheet {
-    /// The least depth that holds every sample.
-    pub fn depth(&self) -> u32 {
-        (8..12).find(|&bd| self.maxval < 1 << bd).unwrap_or(12)
-    }
 }
 
 /// Reads a whole file: header, samples, and nothing after them.
-pub fn read(input: &mut impl Read) -> Result<Sheet, String> {
+pub fn read(input: &mut impl Read) -> Result<Scan, String> {
     let mut header = Header { input };
     header.magic()?;
     let width = header.number("width")?;
@@ -34,16 +27,18 @@ pub fn read(input: &mut impl Read) -> Result<Sheet, String> {
             "maxval {maxval} is not within {LEAST_MAXVAL} to {MOST_MAXVAL}"
         ));
     }
-    let sheet = Sheet {
-        width,
-        height,
-        maxval: maxval as u16,
-        samples: read_rows(input, width, height, maxval as u16)?,
-    };
-    match next_byte(input)? {
-        None => Ok(sheet),
-        Some(_) => Err("bytes follow the last sample".to_string()),
+    let maxval = maxval as u16;
+    let samples = read_rows(input, width, height, maxval)?;
+    if next_byte(input)?.is_some() {
+        return Err("bytes follow the last sample".to_string());
     }
+    let sheet = Sheet::new(width, height, depth(maxval), samples).map_err(|e| e.to_string())?;
+    Ok(Scan { sheet, maxval })
+}
+
+/// The least depth that holds every sample.
+fn depth(maxval: u16) -> u32 {
+    (8..12).find(|&bd| maxval < 1 << bd).unwrap_or(12)
 }
 
 fn check_sides(width: usize, height: usize) -> Result<(), String> {
@@ -100,15 +95,12 @@ fn sample_bytes(maxval: u16) -> usize {
     }
 }
 
-pub fn write(sheet: &Sheet, output: &mut impl Write) -> io::Result<()> {
-    write!(
-        output,
-        "P5\n{} {}\n{}\n",
-        sheet.width, sheet.height, sheet.maxval
-    )?;
-    for &sample in &sheet.samples {
+pub fn write(scan: &Scan, output: &mut impl Write) -> io::Result<()> {
+    let (width, height) = (scan.sheet.width(), scan.sheet.height());
+    write!(output, "P5\n{width} {height}\n{}\n", scan.maxval)?;
+    for sample in scan.sheet.samples() {
         let bytes = sample.to_be_bytes();
-        output.write_all(&bytes[2 - sample_bytes(sheet.maxval)..])?;
+        output.write_all(&bytes[2 - sample_bytes(scan.maxval)..])?;
     }
     Ok(())
 }

@@ -1,21 +1,22 @@
-//! The sheet as a PPM picture (P6), each block tinted by what became of it.
+//! The scan as a PPM picture (P6), each block tinted by what became of it.
 
-use crate::blocks::{Outcome, Row};
-use crate::pgm::Sheet;
+use crate::pgm::Scan;
+use palette_station::sheet::{Form, Part};
 use palette_station::Refusal;
 use std::io::{self, Write};
 
 type Tint = [u16; 3];
 
-pub fn write(sheet: &Sheet, side: usize, rows: &[Row], output: &mut impl Write) -> io::Result<()> {
-    write!(output, "P6\n{} {}\n255\n", sheet.width, sheet.height)?;
-    let mut pixels = Vec::with_capacity(3 * sheet.width);
-    for (y, line) in sheet.samples.chunks_exact(sheet.width).enumerate() {
-        let outcomes = &rows[y / side].outcomes;
+pub fn write(scan: &Scan, form: &Form, output: &mut impl Write) -> io::Result<()> {
+    let (width, height, side) = (form.width(), form.height(), form.settings().side);
+    write!(output, "P6\n{width} {height}\n255\n")?;
+    let tints: Vec<Tint> = form.blocks().map(|(_, part)| tint(part)).collect();
+    let rows: Vec<&[Tint]> = tints.chunks(width.div_ceil(side)).collect();
+    let mut pixels = Vec::with_capacity(3 * width);
+    for (y, line) in scan.sheet.samples().chunks_exact(width).enumerate() {
         pixels.clear();
-        for (samples, &outcome) in line.chunks(side).zip(outcomes) {
-            let tint = tint(outcome);
-            pixels.extend(samples.iter().flat_map(|&v| pixel(v, sheet.maxval, tint)));
+        for (samples, &tint) in line.chunks(side).zip(rows[y / side]) {
+            pixels.extend(samples.iter().flat_map(|&v| pixel(v, scan.maxval, tint)));
         }
         output.write_all(&pixels)?;
     }
@@ -28,7 +29,8 @@ fn pixel(sample: u16, maxval: u16, tint: Tint) -> [u8; 3] {
     tint.map(|t| ((2 * grey + u32::from(t)) / 3) as u8)
 }
 
-fn tint(outcome: Outcome) -> Tint {
+fn tint(part: Part) -> Tint {
+    /// For 2 to 8 colours.
     const BY_COLORS: [Tint; 7] = [
         [120, 255, 120],
         [60, 230, 60],
@@ -42,14 +44,14 @@ fn tint(outcome: Outcome) -> Tint {
     const SMALL: Tint = [255, 220, 0];
     const MANY_LEVELS: Tint = [255, 0, 0];
     const OTHER: Tint = [255, 0, 200];
-    match outcome {
-        Outcome::Found { colors, .. } => *colors
-            .checked_sub(2)
-            .and_then(|i| BY_COLORS.get(usize::from(i)))
+    match part {
+        // A list begins with the size symbol, whose value is the number of colours less 2.
+        Part::List(words) => *words
+            .first()
+            .and_then(|word| BY_COLORS.get((word & 0xffff) as usize))
             .unwrap_or(&OTHER),
-        Outcome::Refused(Refusal::ONE_LEVEL) => ONE_LEVEL,
-        Outcome::Refused(Refusal::SMALL) => SMALL,
-        Outcome::Refused(Refusal::MANY_LEVELS) => MANY_LEVELS,
-        Outcome::Refused(_) => OTHER,
+        Part::OneLevel(_) => ONE_LEVEL,
+        Part::Samples(Refusal::SMALL, _) => SMALL,
+        Part::Samples(..) => MANY_LEVELS,
     }
 }

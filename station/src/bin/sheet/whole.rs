@@ -1,8 +1,10 @@
 //! Files that are written whole or not at all.
 
 use std::ffi::OsString;
-use std::fs::{self, File, OpenOptions};
-use std::io::{self, BufWriter, Write};
+use std::fs::{self, File, OpenOptions, Permissions};
+use std::io::{self, BufWriter, ErrorKind, Write};
+#[cfg(unix)]
+use std::os::unix::fs::{OpenOptionsExt, PermissionsExt};
 use std::path::{Path, PathBuf};
 use std::process;
 
@@ -48,13 +50,12 @@ fn try_stage(
     fill: impl FnOnce(&mut BufWriter<File>) -> io::Result<()>,
 ) -> io::Result<Staged> {
     let target = place(target);
-    check_kind(&target)?;
-    let part = part_path(&target)?;
-    let file = OpenOptions::new()
-        .write(true)
-        .create_new(true)
-        .open(&part)?;
+    let old = replaced(&target)?;
+    let (part, file) = create_part(&target, old.as_ref())?;
     let staged = Staged { part, target };
+    if let Some(old) = old {
+        file.set_permissions(old)?;
+    }
     let mut output = BufWriter::with_capacity(1 << 16, file);
     fill(&mut output)?;
     output.flush()?;
@@ -62,23 +63,50 @@ fn try_stage(
     Ok(staged)
 }
 
-/// A rename would put a plain file in the place of a device or a pipe.
-fn check_kind(target: &Path) -> io::Result<()> {
+/// The permissions of the file that stands there. A rename would put a plain file in the place
+/// of a device or a pipe.
+fn replaced(target: &Path) -> io::Result<Option<Permissions>> {
     match fs::metadata(target) {
         Ok(found) if !found.is_file() => Err(io::Error::other("not a plain file")),
-        _ => Ok(()),
+        Ok(found) => Ok(Some(found.permissions())),
+        Err(_) => Ok(None),
     }
 }
 
-fn part_path(target: &Path) -> io::Result<PathBuf> {
+/// Creates a file of its own beside the target. A name may be taken, by a run that was killed
+/// or by one in another container with the same process number.
+fn create_part(target: &Path, old: Option<&Permissions>) -> io::Result<(PathBuf, File)> {
+    const MOST_TRIES: u32 = 1000;
     let name = target
         .file_name()
         .ok_or_else(|| io::Error::other("no file name"))?;
-    let mut part = OsString::from(".");
-    part.push(name);
-    part.push(format!(".{}.part", process::id()));
-    Ok(folder(target).join(part))
+    let mut options = OpenOptions::new();
+    options.write(true).create_new(true);
+    no_wider(&mut options, old);
+    let mut tries = 0;
+    loop {
+        let mut part = OsString::from(".");
+        part.push(name);
+        part.push(format!(".{}.{tries}.part", process::id()));
+        let part = folder(target).join(part);
+        match options.open(&part) {
+            Ok(file) => return Ok((part, file)),
+            Err(e) if e.kind() == ErrorKind::AlreadyExists && tries < MOST_TRIES => tries += 1,
+            Err(e) => return Err(e),
+        }
+    }
 }
+
+/// Nobody may read the new file who may not read the old one, not even at its start.
+#[cfg(unix)]
+fn no_wider(options: &mut OpenOptions, old: Option<&Permissions>) {
+    if let Some(old) = old {
+        options.mode(old.mode());
+    }
+}
+
+#[cfg(not(unix))]
+fn no_wider(_: &mut OpenOptions, _: Option<&Permissions>) {}
 
 fn folder(path: &Path) -> &Path {
     match path.parent() {

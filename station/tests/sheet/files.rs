@@ -1,0 +1,136 @@
+//! Files are written whole or not at all.
+
+use crate::command::{bars, blocks, command, fed, folder, names, pgm, printed, refused, waiting};
+use std::fs;
+use std::io::Write;
+use std::path::Path;
+
+#[test]
+fn files_that_cannot_be_written() {
+    let folder = folder("unwritable");
+    fs::write(folder.join("a.pgm"), pgm(20, 20, 255, bars)).unwrap();
+    fs::create_dir(folder.join("taken")).unwrap();
+    for option in ["--lists", "--picture"] {
+        for path in ["absent/file", "taken", "a.pgm/file", ".."] {
+            refused(&folder, &format!("a.pgm {option} {path}"), "cannot write");
+        }
+    }
+    refused(&folder, "--sample taken", "cannot write");
+    refused(
+        &folder,
+        "a.pgm --lists good --picture absent/p",
+        "cannot write",
+    );
+}
+
+#[test]
+fn a_failed_run_leaves_the_old_file() {
+    let folder = folder("old-file");
+    fs::write(folder.join("a.pgm"), "P5 1 1 255 ").unwrap();
+    fs::write(folder.join("lists"), "old").unwrap();
+    refused(&folder, "a.pgm --lists lists", "cut off in row 0");
+    assert_eq!(fs::read(folder.join("lists")).unwrap(), b"old");
+    fs::write(folder.join("a.pgm"), "P5 1 1 255 x").unwrap();
+    assert_eq!(blocks(&folder, "a.pgm"), "       0       8\n78\n");
+    assert_eq!(names(&folder), ["a.pgm", "lists"]);
+}
+
+/// The files that a killed run of the same process number would leave are there when the run
+/// comes to write.
+#[test]
+fn parts_that_a_killed_run_left_are_no_hindrance() {
+    let folder = folder("stale-parts");
+    let bytes = pgm(400, 400, 255, bars);
+    let (first, rest) = bytes.split_at(150_000);
+    let mut child = waiting(&folder, "- --lists lists --picture picture");
+    // More than a pipe holds: it is reading, and has tried its files before.
+    child.stdin.as_mut().unwrap().write_all(first).unwrap();
+    let name = |target: &str, end: &str| format!(".{target}.{}.{end}part", child.id());
+    let mut all: Vec<String> = ["", "0.", "1."]
+        .iter()
+        .flat_map(|end| [name("lists", end), name("picture", end)])
+        .collect();
+    for name in &all {
+        fs::write(folder.join(name), "left").unwrap();
+    }
+    let output = fed(child, rest);
+    let errors = String::from_utf8(output.stderr).unwrap();
+    assert!(output.status.success(), "{errors}");
+    all.extend(["lists", "picture"].map(String::from));
+    all.sort();
+    assert_eq!(names(&folder), all);
+}
+
+#[cfg(unix)]
+fn mode(path: &Path) -> u32 {
+    use std::os::unix::fs::PermissionsExt;
+    fs::metadata(path).unwrap().permissions().mode() & 0o7777
+}
+
+#[cfg(unix)]
+#[test]
+fn a_replaced_file_keeps_its_mode() {
+    use std::os::unix::fs::PermissionsExt;
+    let folder = folder("modes");
+    fs::write(folder.join("a.pgm"), pgm(20, 20, 255, bars)).unwrap();
+    printed(&folder, "a.pgm --lists new");
+    fs::write(folder.join("plain"), "").unwrap();
+    assert_eq!(mode(&folder.join("new")), mode(&folder.join("plain")));
+    for bits in [0o600, 0o640, 0o666, 0o400] {
+        let path = folder.join("lists");
+        fs::write(&path, "old").unwrap();
+        fs::set_permissions(&path, fs::Permissions::from_mode(bits)).unwrap();
+        printed(&folder, "a.pgm --lists lists");
+        assert_eq!(mode(&path), bits, "{bits:o}");
+        assert_eq!(
+            fs::read(&path).unwrap(),
+            fs::read(folder.join("new")).unwrap()
+        );
+        fs::remove_file(&path).unwrap();
+    }
+}
+
+#[test]
+fn lists_on_standard_output_and_the_summary_beside_it() {
+    let folder = folder("lists-printed");
+    let bytes = pgm(100, 70, 255, bars);
+    fs::write(folder.join("a.pgm"), &bytes).unwrap();
+    let summary = printed(&folder, "a.pgm --lists lists");
+    let lists = fs::read(folder.join("lists")).unwrap();
+    let given = command(&folder, ["a.pgm", "--lists", "-", "--picture", "p"]);
+    let piped = fed(waiting(&folder, "- --lists -"), &bytes);
+    for output in [{ given }.output().unwrap(), piped] {
+        assert!(output.status.success());
+        assert!(output.stdout == lists);
+        let errors = String::from_utf8(output.stderr).unwrap();
+        // All but what tells the time.
+        assert_eq!(errors.lines().count(), summary.lines().count());
+        let same = |(a, b): (&str, &str)| a == b;
+        assert!(
+            errors.lines().zip(summary.lines()).take(10).all(same),
+            "{errors}"
+        );
+    }
+    assert_eq!(names(&folder), ["a.pgm", "lists", "p"]);
+}
+
+/// Nothing takes its place where the lists cannot be printed.
+#[cfg(target_os = "linux")]
+#[test]
+fn a_full_standard_output_leaves_no_file() {
+    let folder = folder("full");
+    fs::write(folder.join("a.pgm"), pgm(100, 70, 255, bars)).unwrap();
+    let full = fs::OpenOptions::new()
+        .write(true)
+        .open("/dev/full")
+        .unwrap();
+    let output = command(&folder, ["a.pgm", "--lists", "-", "--picture", "p"])
+        .stdout(full)
+        .output()
+        .unwrap();
+    assert_eq!(output.status.code(), Some(1));
+    assert!(String::from_utf8(output.stderr)
+        .unwrap()
+        .starts_with("sheet: cannot print"));
+    assert_eq!(names(&folder), ["a.pgm"]);
+}

@@ -1,0 +1,16 @@
+//! The command `sheet`, and the library's sheets behind it.
+
+mod blocks;
+mod command;
+#[path = "../common/mod.rs"]
+mod common;
+mod files;
+mod form;
+mod identity;
+mod levels;
+mod mutations;
+mod options;
+mod pictures;
+mod scans;
+mod script;
+mod summary;
