@@ -43,20 +43,22 @@
 //!
 //! ```text
 //! palette-sheet 1            the form's name and version
-//! width 128
-//! height 64
+//! width 37
+//! height 16
 //! depth 8
-//! side 64
+//! side 16
 //! levels 0                   0: as scanned
-//! lambda 42700000            the bits of the f32 as 8 hex digits
+//! lambda 42700000            the bits of the f32 as 8 hex digits: 60
 //! costs
-//! 3c0fb6ba 40ce2f1c ..       43 lines of 7, written as lambda
-//!      118                   a block with a palette: its list as the listing program prints it,
-//!        3       0       0   the count of the calls, then kind, first and second of each
+//! 3e002aa7 4065b27c ..       43 lines of 7, written as lambda is
+//!      277                   a block with a palette: its list as the listing program prints it,
+//!        3       0       0   the number of calls, then kind, first and second of each
+//!        1       8      20
 //!        ..
 //!        0       9     240   a block of one level: 0, 9 and the level
 //!        0      10           any other block: 0, its number,
-//! f0f0efe4d3 ..              and its rows, 2 hex digits a sample at depth 8, else 3
+//! 0001020304                 and its rows, 2 hex digits a sample at depth 8, else 3
+//! ..
 //! ```
 //!
 //! Blocks come row by row from the top, each row from the left; those at the right and lower edge

@@ -60,9 +60,15 @@ impl Parts {
         self.kinds.push(Kind::OneLevel(level));
     }
 
-    /// The samples of a whole block.
-    pub(super) fn push_samples(&mut self, refusal: Refusal, samples: impl Iterator<Item = u16>) {
-        self.samples.extend(samples);
+    /// All rows of a block.
+    pub(super) fn push_samples<R: AsRef<[u16]>>(
+        &mut self,
+        refusal: Refusal,
+        rows: impl Iterator<Item = R>,
+    ) {
+        for row in rows {
+            self.samples.extend_from_slice(row.as_ref());
+        }
         self.kinds.push(Kind::Samples(refusal));
     }
 

@@ -134,7 +134,7 @@ impl Words<'_> {
                 let rows: Option<Vec<Vec<u16>>> = (0..area.height)
                     .map(|_| self.samples(area.width, bd))
                     .collect();
-                parts.push_samples(refusal, rows?.into_iter().flatten());
+                parts.push_samples(refusal, rows?.into_iter());
             }
             _ => return None,
         }

@@ -176,8 +176,7 @@ fn search_row(
             Ok(raw_width) => row.1 += u64::from(raw_width),
             Err(Refusal::ONE_LEVEL) => row.0.push_level(sheet.samples[top * sheet.width + area.x]),
             Err(refusal) if refusal.means_no_palette() => {
-                let samples = sheet.rows(area).flatten().copied();
-                row.0.push_samples(refusal, samples);
+                row.0.push_samples(refusal, sheet.rows(area));
             }
             Err(refusal) => return Err(refusal),
         }
@@ -194,9 +193,9 @@ fn search_block(
     parts: &mut Parts,
 ) -> Result<u32, Refusal> {
     room.samples.clear();
-    let samples = sheet.rows(area).flatten();
-    room.samples
-        .extend(samples.map(|&sample| f32::from(sample)));
+    for row in sheet.rows(area) {
+        room.samples.extend(row.iter().map(|&v| f32::from(v)));
+    }
     let block = Block {
         samples: &room.samples,
         width: area.width,

@@ -4,6 +4,7 @@
 pub mod decode;
 
 use palette_station::{Block, Colors, Palette};
+use std::env;
 
 /// Fills buffers before a call, so that a write shows.
 pub const BYTE: u8 = 0xee;
@@ -41,6 +42,12 @@ pub fn counting(width: usize, height: usize, n: usize) -> Palette {
         flags: vec![0; height],
         bits: 0.0,
     }
+}
+
+/// So many cases, or so many times the variable STATION_TIMES for a longer run.
+pub fn cases(count: usize) -> usize {
+    let times = env::var("STATION_TIMES").ok();
+    count * times.map_or(1, |times| times.parse().expect("a whole number"))
 }
 
 /// Random numbers by splitmix64.

@@ -1,6 +1,6 @@
 //! The form beside another working from its description, and read back.
 
-use crate::common::Random;
+use crate::common::{cases, Random};
 use palette_station::sheet::{Form, Levels, Part, Settings, Sheet};
 use palette_station::{list, search, Block, Costs, Refusal};
 use std::fmt::Write;
@@ -142,7 +142,7 @@ pub fn block(cut: &Cut, bd: u32) -> Block<'_> {
 #[test]
 fn the_form_is_what_its_description_says() {
     let mut random = Random(12);
-    for place in 0..300 {
+    for place in 0..cases(300) {
         let sheet = sheet(&mut random);
         let settings = settings(&mut random, sheet.bd());
         let due = described(&sheet, &settings);
@@ -174,7 +174,7 @@ fn all_of(form: &Form) -> (Vec<usize>, Vec<u32>, Vec<(usize, Part<'_>)>) {
 #[test]
 fn every_part_is_read_back() {
     let mut random = Random(13);
-    for place in 0..300 {
+    for place in 0..cases(300) {
         let sheet = sheet(&mut random);
         let settings = settings(&mut random, sheet.bd());
         let form = sheet.search(&settings, 1, |_, _| {}).unwrap().form;
@@ -205,7 +205,7 @@ fn changed(random: &mut Random, text: &[u8]) -> Vec<u8> {
 fn changed_forms_are_refused_or_are_other_forms() {
     let mut random = Random(14);
     let (mut refused, mut read) = (0, 0);
-    for _ in 0..40 {
+    for _ in 0..cases(40) {
         let sheet = sheet(&mut random);
         let text = text(&sheet, &settings(&mut random, sheet.bd()));
         let form = Form::read(&text).unwrap();

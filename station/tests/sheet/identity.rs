@@ -1,7 +1,7 @@
 //! Two different sheets never have one form.
 
 use crate::command::{bars, folder, form, pgm};
-use crate::common::Random;
+use crate::common::{cases, Random};
 use crate::form::{block, cut, text};
 use palette_station::sheet::{Settings, Sheet};
 use palette_station::{search, Palette, Refusal};
@@ -117,7 +117,7 @@ fn pair(random: &mut Random) -> (Sheet, Sheet, usize) {
 fn one_sample_shows_unless_the_palettes_are_the_same() {
     let mut random = Random(15);
     let (mut equal, mut unequal) = (0, 0);
-    for place in 0..600 {
+    for place in 0..cases(600) {
         let (a, b, cell) = pair(&mut random);
         let settings = Settings {
             side: [5, 16, 20, 32, 64][random.between(0, 4)],
