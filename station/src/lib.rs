@@ -21,7 +21,7 @@
 //! ```
 //!
 //! Equal input gives equal lists on every station; different palettes of one width, height, depth
-//! and cache never share a list. No input makes a function fail other than by a refusal, and a
+//! and cache never share a list. A whole [`sheet`] is known by more than its lists. No input makes a function fail other than by a refusal, and a
 //! refusal leaves every lent buffer as it was.
 //!
 //! The answers do not depend on the caller's floating environment: each call runs in the default

@@ -3,9 +3,10 @@
 //! ```
 //! use palette_station::sheet::{Form, Settings, Sheet};
 //!
-//! // A blank sheet, and one with a speck.
-//! let blank = Sheet::new(128, 64, 8, vec![240; 128 * 64])?;
-//! let mut samples = blank.samples().to_vec();
+//! // Bare paper, and a wash of 64 levels; then a mark in the wash. Neither block has a palette.
+//! let sample = |cell: usize| if cell % 128 < 64 { 240 } else { 100 + (cell % 64) as u16 };
+//! let wash = Sheet::new(128, 64, 8, (0..128 * 64).map(sample).collect())?;
+//! let mut samples = wash.samples().to_vec();
 //! samples[100] = 0;
 //! let marked = Sheet::new(128, 64, 8, samples)?;
 //!
@@ -15,8 +16,8 @@
 //!     sheet.search(&settings, 2, |_, _| {})?.form.write(&mut key)?;
 //!     Ok(key)
 //! };
-//! assert_eq!(key(&blank)?, key(&blank)?);
-//! assert_ne!(key(&blank)?, key(&marked)?);
+//! assert_eq!(key(&wash)?, key(&wash)?);
+//! assert_ne!(key(&wash)?, key(&marked)?);
 //! assert_eq!(Form::read(&key(&marked)?)?.blocks().count(), 2);
 //! # Ok::<(), Box<dyn std::error::Error>>(())
 //! ```
@@ -33,9 +34,10 @@
 //! - for each block without one its number, and what no list holds: the level of a block of one
 //!   level (9), the samples of a small block (8) or of one with more than 32 levels (10).
 //!
-//! Two forms are equal exactly when all of this is, lambda and costs to the bit. Equal forms then
-//! mean equal palettes in every block that has one, and equal samples in every other. Two scans
-//! may still differ inside a block with a palette, where the search gives both the same one.
+//! Two forms are equal exactly when all of this is, lambda and costs to the bit. That is tested,
+//! not proved. Equal forms then mean equal palettes in every block that has one, and equal samples
+//! (as rounded, where levels are set) in every other. Two scans may still differ inside a block
+//! with a palette, where the search gives both the same one.
 //!
 //! # The form
 //!

@@ -4,6 +4,7 @@ use super::parts::Parts;
 use super::{area, Area, Form, Settings, Sheet};
 use crate::limits::{MAX_CELLS, MAX_LINES, MAX_SIDE, MAX_WORDS};
 use crate::{list_into, search_into, Block, Refusal};
+use std::collections::BTreeMap;
 use std::error::Error;
 use std::fmt::{self, Display, Formatter};
 use std::io;
@@ -62,8 +63,15 @@ impl Display for Failure {
 
 impl Error for Failure {}
 
-/// A row of blocks that is ended: its place from the top, and its parts with their raw width.
-type Ended = (usize, Result<(Parts, u64), Refusal>);
+/// A row of blocks, or several one after the other.
+#[derive(Default)]
+struct Row {
+    parts: Parts,
+    raw_width: u64,
+}
+
+/// What a thread tells of a row that it has ended: its place from the top, and what it is.
+type Ended = (usize, Result<Row, Refusal>);
 
 impl Sheet {
     /// Cuts the sheet into blocks, searches and lists each. `progress` hears how many rows of
@@ -91,14 +99,15 @@ impl Sheet {
         }
         let rounded = settings.levels.map(|levels| levels.round(self));
         let sheet = rounded.as_ref().unwrap_or(self);
-        let (parts, raw_width) = in_threads(sheet, settings, threads.max(1), progress)?;
+        let all = in_threads(sheet, settings, threads.max(1), progress)?;
         let form = Form {
             width: self.width,
             height: self.height,
             bd: self.bd,
             settings: settings.clone(),
-            parts,
+            parts: all.parts,
         };
+        let raw_width = all.raw_width;
         Ok(Searched { form, raw_width })
     }
 }
@@ -108,7 +117,7 @@ fn in_threads(
     settings: &Settings,
     threads: usize,
     progress: impl FnMut(usize, usize),
-) -> Result<(Parts, u64), Failure> {
+) -> Result<Row, Failure> {
     let rows = sheet.height.div_ceil(settings.side);
     let next = AtomicUsize::new(0);
     let (sender, receiver) = mpsc::channel();
@@ -135,17 +144,18 @@ fn in_order(
     receiver: &Receiver<Ended>,
     rows: usize,
     mut progress: impl FnMut(usize, usize),
-) -> Result<(Parts, u64), Refusal> {
-    let mut ended: Vec<(Parts, u64)> = Vec::new();
-    ended.resize_with(rows, Default::default);
+) -> Result<Row, Refusal> {
+    let mut all = Row::default();
+    let mut early = BTreeMap::new();
+    let mut due = 0;
     for (done, (place, row)) in receiver.iter().enumerate() {
-        ended[place] = row?;
+        early.insert(place, row?);
+        while let Some(row) = early.remove(&due) {
+            all.parts.append(row.parts);
+            all.raw_width += row.raw_width;
+            due += 1;
+        }
         progress(done + 1, rows);
-    }
-    let mut all = (Parts::default(), 0);
-    for (parts, raw_width) in ended {
-        all.0.append(parts);
-        all.1 += raw_width;
     }
     Ok(all)
 }
@@ -169,14 +179,15 @@ fn search_row(
     top: usize,
     settings: &Settings,
     room: &mut Room,
-) -> Result<(Parts, u64), Refusal> {
-    let mut row = (Parts::default(), 0);
+) -> Result<Row, Refusal> {
+    let mut row = Row::default();
     for area in area::row(sheet.width, sheet.height, settings.side, top) {
-        match search_block(sheet, area, settings, room, &mut row.0) {
-            Ok(raw_width) => row.1 += u64::from(raw_width),
-            Err(Refusal::ONE_LEVEL) => row.0.push_level(sheet.samples[top * sheet.width + area.x]),
+        let parts = &mut row.parts;
+        match search_block(sheet, area, settings, room, parts) {
+            Ok(raw_width) => row.raw_width += u64::from(raw_width),
+            Err(Refusal::ONE_LEVEL) => parts.push_level(sheet.samples[top * sheet.width + area.x]),
             Err(refusal) if refusal.means_no_palette() => {
-                row.0.push_samples(refusal, sheet.rows(area));
+                parts.push_samples(refusal, sheet.rows(area));
             }
             Err(refusal) => return Err(refusal),
         }

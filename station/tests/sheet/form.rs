@@ -287,3 +287,24 @@ fn what_no_search_takes() {
         }
     }
 }
+
+#[test]
+fn what_is_no_sheet() {
+    for bd in 8..=12 {
+        let top = (1 << bd) - 1;
+        assert!(Sheet::new(3, 1, bd, vec![0, top, 1]).is_ok());
+        let above = Sheet::new(3, 1, bd, vec![0, 1, top + 1]);
+        assert_eq!(above, Err(Refusal::SAMPLE), "depth {bd}");
+    }
+    let refused = |width, height, bd| Sheet::new(width, height, bd, vec![9999; 6]).unwrap_err();
+    for (width, height) in [(0, 6), (6, 0), (0, 0)] {
+        assert_eq!(refused(width, height, 13), Refusal::SIDE);
+    }
+    for bd in [0, 7, 13, 40, u32::MAX] {
+        assert_eq!(refused(2, 2, bd), Refusal::DEPTH);
+    }
+    for (width, height) in [(2, 2), (7, 1), (usize::MAX, usize::MAX), (1 << 63, 2)] {
+        assert_eq!(refused(width, height, 8), Refusal::SAMPLE_COUNT);
+    }
+    assert_eq!(refused(3, 2, 8), Refusal::SAMPLE);
+}

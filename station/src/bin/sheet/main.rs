@@ -19,7 +19,7 @@ use std::env;
 use std::fs::File;
 use std::io::{self, BufReader, BufWriter, Write};
 use std::process::ExitCode;
-use std::time::Instant;
+use std::time::{Duration, Instant};
 use summary::Times;
 
 fn main() -> ExitCode {
@@ -78,11 +78,8 @@ fn scan(options: &Options) -> Result<Scan, String> {
     }
 }
 
-fn search(
-    options: &Options,
-    costs: Costs,
-    scan: &Scan,
-) -> Result<(Searched, std::time::Duration), String> {
+/// What became of the sheet, and how long it took.
+fn search(options: &Options, costs: Costs, scan: &Scan) -> Result<(Searched, Duration), String> {
     let default = Settings::of_depth(scan.sheet.bd());
     let settings = Settings {
         side: options.side,

@@ -3,7 +3,6 @@
 use crate::whole;
 use palette_station::sheet::Levels;
 use std::ffi::{OsStr, OsString};
-use std::ops::RangeInclusive;
 use std::path::{Path, PathBuf};
 use std::str::FromStr;
 
@@ -25,8 +24,8 @@ standard input. Without FILE a sample drawing is made and searched.
   --lists FILE    write what the sheet is known by: sides, depth and options,
                   then per block its call list, or its number with its level or
                   its samples; - for standard output, the summary then goes to
-                  standard error. As a short key:
-                  sheet scan.pgm --lists - | sha256sum
+                  standard error (as a short key:
+                  sheet scan.pgm --lists - | sha256sum)
   --picture FILE  write the sheet as PPM, its blocks tinted: found with 2 to 8
                   colours green to blue to violet; refused for its sides (8)
                   yellow, one level (9) grey, more than 32 levels (10) red
@@ -35,8 +34,6 @@ standard input. Without FILE a sample drawing is made and searched.
 ";
 
 const MOST_SIDE: usize = 64;
-const FEWEST_LEVELS: usize = 2;
-const MOST_LEVELS: usize = 32;
 const MOST_THREADS: usize = 256;
 const MOST_LAMBDA: f32 = 1_048_576.0;
 
@@ -56,10 +53,8 @@ pub struct Options {
 impl Options {
     /// The files that are written.
     pub fn files(&self) -> impl Iterator<Item = &Path> {
-        let others = [self.picture.as_deref(), self.sample.as_deref()];
-        self.lists_file()
-            .into_iter()
-            .chain(others.into_iter().flatten())
+        let others = [&self.picture, &self.sample].map(Option::as_deref);
+        [self.lists_file()].into_iter().chain(others).flatten()
     }
 
     pub fn lists_file(&self) -> Option<&Path> {
@@ -152,12 +147,9 @@ fn known(word: &OsStr) -> Result<&'static str, String> {
 
 fn set(options: &mut Options, name: &str, value: OsString) -> Result<(), String> {
     match name {
-        "--side" => options.side = whole_number(name, &value, 1..=MOST_SIDE)?,
-        "--levels" => {
-            let count = whole_number(name, &value, FEWEST_LEVELS..=MOST_LEVELS)?;
-            options.levels = Levels::new(count as u32);
-        }
-        "--threads" => options.threads = whole_number(name, &value, 1..=MOST_THREADS)?,
+        "--side" => options.side = whole_number(name, &value, MOST_SIDE)?,
+        "--levels" => options.levels = Some(levels(&value)?),
+        "--threads" => options.threads = whole_number(name, &value, MOST_THREADS)?,
         "--lambda" => options.lambda = Some(lambda(&value)?),
         "--costs" => options.costs = Some(value.into()),
         "--lists" => options.lists = Some(value.into()),
@@ -167,15 +159,21 @@ fn set(options: &mut Options, name: &str, value: OsString) -> Result<(), String>
     Ok(())
 }
 
-fn whole_number(name: &str, value: &OsStr, range: RangeInclusive<usize>) -> Result<usize, String> {
+fn whole_number(name: &str, value: &OsStr, most: usize) -> Result<usize, String> {
     match parsed(value) {
-        Some(number) if range.contains(&number) => Ok(number),
+        Some(number) if (1..=most).contains(&number) => Ok(number),
         _ => {
-            let (least, most) = range.into_inner();
             let value = value.to_string_lossy();
-            Err(format!("{name} is {least} to {most}, not {value}"))
+            Err(format!("{name} is 1 to {most}, not {value}"))
         }
     }
+}
+
+fn levels(value: &OsStr) -> Result<Levels, String> {
+    parsed(value).and_then(Levels::new).ok_or_else(|| {
+        let value = value.to_string_lossy();
+        format!("--levels is 2 to 32, not {value}")
+    })
 }
 
 fn lambda(value: &OsStr) -> Result<f32, String> {
