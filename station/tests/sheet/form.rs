@@ -80,8 +80,8 @@ pub fn cut(sheet: &Sheet, settings: &Settings) -> Vec<Cut> {
     blocks.collect()
 }
 
-/// The form as its description has it, from single searches.
-fn described(sheet: &Sheet, settings: &Settings) -> String {
+/// The form as its description has it, from single searches, and the sum of their raw widths.
+fn described(sheet: &Sheet, settings: &Settings) -> (String, u64) {
     let hex = |f: f32| format!("{:08x}", f.to_bits());
     let mut text = format!(
         "palette-sheet 1\nwidth {}\nheight {}\ndepth {}\nside {}\nlevels {}\nlambda {}\ncosts\n",
@@ -96,24 +96,25 @@ fn described(sheet: &Sheet, settings: &Settings) -> String {
         text += &hex(cost);
         text += if place % 7 == 6 { "\n" } else { " " };
     }
-    for block in cut(sheet, settings) {
-        describe(&block, sheet.bd(), settings, &mut text);
-    }
-    text
+    let blocks = cut(sheet, settings).into_iter();
+    let raw_widths = blocks.map(|block| describe(&block, sheet.bd(), settings, &mut text));
+    let raw_width = raw_widths.map(u64::from).sum();
+    (text, raw_width)
 }
 
-fn describe(cut: &Cut, bd: u32, settings: &Settings, text: &mut String) {
+/// Adds a block to the text and gives its raw width.
+fn describe(cut: &Cut, bd: u32, settings: &Settings, text: &mut String) -> u32 {
     let found = search(&block(cut, bd), settings.lambda, &settings.costs);
     let refusal = match found {
         Ok(palette) => {
-            let words = list(&palette, &[]).unwrap().words;
-            writeln!(text, "{:>8}", words.len()).unwrap();
-            for word in words {
+            let listing = list(&palette, &[]).unwrap();
+            writeln!(text, "{:>8}", listing.words.len()).unwrap();
+            for word in listing.words {
                 let [kind, first, high, low] = word.to_be_bytes();
                 let second = u16::from_be_bytes([high, low]);
                 writeln!(text, "{kind:>8}{first:>8}{second:>8}").unwrap();
             }
-            return;
+            return listing.raw_width;
         }
         Err(refusal) => refusal,
     };
@@ -128,6 +129,7 @@ fn describe(cut: &Cut, bd: u32, settings: &Settings, text: &mut String) {
         }
     }
     text.push('\n');
+    0
 }
 
 pub fn block(cut: &Cut, bd: u32) -> Block<'_> {
@@ -145,8 +147,10 @@ fn the_form_is_what_its_description_says() {
     for place in 0..cases(300) {
         let sheet = sheet(&mut random);
         let settings = settings(&mut random, sheet.bd());
-        let due = described(&sheet, &settings);
+        let (due, raw_width) = described(&sheet, &settings);
         assert!(text(&sheet, &settings) == due.into_bytes(), "sheet {place}");
+        let searched = sheet.search(&settings, 1, |_, _| {}).unwrap();
+        assert_eq!(searched.raw_width, raw_width, "sheet {place}");
     }
 }
 

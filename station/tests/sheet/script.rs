@@ -17,6 +17,7 @@ for crate in lists counts; do
     echo "logic=proved functions=1"
     echo "rt: $crate proved (1 s)" >&2
 done
+if [ -n "$RT_EDITS" ]; then sleep 0.02; echo edited >crates/lists/src/lib.rt; sleep 0.02; fi
 if [ -n "$RT_FAILS" ]; then echo "crate station: not proved"; exit 1; fi
 mkdir -p target/staticlib
 date +%s%N >target/staticlib/libstation.a
@@ -150,6 +151,20 @@ fn a_change_in_a_crate_builds_the_library_again() {
     repository.write("top/station/src/lib.rs");
     let (_, errors, calls) = repository.run("top/sheet");
     assert_eq!((errors.as_str(), calls), ("", vec![BOTH[1].to_string()]));
+}
+
+#[test]
+fn a_change_while_it_is_built_is_not_lost() {
+    let repository = Repository::new("script-meanwhile");
+    let output = repository
+        .command("top/sheet")
+        .env("RT_EDITS", "1")
+        .output();
+    assert!(output.unwrap().status.success());
+    let (.., calls) = repository.run("top/sheet");
+    assert_eq!(calls, BOTH);
+    let (.., calls) = repository.run("top/sheet");
+    assert!(calls.is_empty(), "{calls:?}");
 }
 
 #[test]
