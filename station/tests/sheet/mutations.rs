@@ -45,12 +45,10 @@ fn mutated(random: &mut Random, mut bytes: Vec<u8>) -> Vec<u8> {
     bytes
 }
 
-/// Whether bytes are a scan, judged by another working of the format: the header as words after
-/// comments became line feeds, then as many bytes as they ask for.
-fn is_scan(bytes: &[u8]) -> bool {
-    let mut plain = Vec::new();
-    let mut ends = Vec::new();
+/// The bytes that count in a header with the places behind them: no comments, but their ends.
+fn without_remarks(bytes: &[u8]) -> Vec<(u8, usize)> {
     let mut in_remark = false;
+    let mut plain = Vec::new();
     for (place, &byte) in bytes.iter().enumerate().skip(2) {
         in_remark = match byte {
             b'\n' | b'\r' => false,
@@ -58,74 +56,82 @@ fn is_scan(bytes: &[u8]) -> bool {
             _ => in_remark,
         };
         if !in_remark {
-            plain.push(byte);
-            ends.push(place + 1);
+            plain.push((byte, place + 1));
         }
     }
-    let space = |byte: &u8| b" \t\n\r\x0b\x0c".contains(byte);
-    let mut place = 0;
-    let mut numbers = Vec::new();
-    while numbers.len() < 3 {
-        place += plain[place..].iter().take_while(|b| space(b)).count();
-        let digits = plain[place..].iter().take_while(|b| b.is_ascii_digit());
-        let digits = String::from_utf8(digits.copied().collect()).unwrap();
-        place += digits.len();
-        match (digits.parse::<u64>(), plain.get(place)) {
-            (Ok(number), Some(end)) if space(end) => numbers.push(number),
-            _ => return false,
+    plain
+}
+
+/// Width, height and maxval, and where the samples begin.
+fn header(bytes: &[u8]) -> Option<([u64; 3], usize)> {
+    let plain = without_remarks(bytes);
+    let is_space = |byte: u8| b" \t\n\r\x0b\x0c".contains(&byte);
+    let mut rest = plain.iter().copied().peekable();
+    let mut numbers = [0; 3];
+    let mut start = 0;
+    for number in &mut numbers {
+        while rest.next_if(|&(byte, _)| is_space(byte)).is_some() {}
+        let mut digits = String::new();
+        while let Some((digit, _)) = rest.next_if(|(byte, _)| byte.is_ascii_digit()) {
+            digits.push(char::from(digit));
         }
+        *number = digits.parse().ok()?;
+        start = rest.next_if(|&(byte, _)| is_space(byte))?.1;
     }
-    let [width, height, maxval] = [numbers[0], numbers[1], numbers[2]];
-    let raster = &bytes[ends[place]..];
+    Some((numbers, start))
+}
+
+/// Whether bytes are a scan, judged by another working of the format.
+fn is_scan(bytes: &[u8]) -> bool {
+    let Some(([width, height, maxval], start)) = header(bytes) else {
+        return false;
+    };
+    let raster = &bytes[start..];
     let wide = if maxval > 255 { 2 } else { 1 };
     let count = width.checked_mul(height).filter(|&count| count <= 1 << 30);
-    let samples: Vec<u64> = match wide {
-        1 => raster.iter().map(|&byte| u64::from(byte)).collect(),
-        _ => raster
-            .chunks(2)
-            .map(|p| u64::from(p[0]) << 8 | u64::from(*p.last().unwrap()))
-            .collect(),
-    };
+    let value = |sample: &[u8]| sample.iter().fold(0, |v, &byte| v << 8 | u64::from(byte));
     bytes.starts_with(b"P5")
         && (255..=4095).contains(&maxval)
-        && count.is_some_and(|n| n > 0 && n * wide == raster.len() as u64)
-        && samples.into_iter().all(|sample| sample <= maxval)
+        && count.is_some_and(|n| n > 0 && n * wide as u64 == raster.len() as u64)
+        && raster.chunks(wide).all(|sample| value(sample) <= maxval)
 }
+
+/// Options with values that are in order, and with some that are not.
+const OPTIONS: [(&str, &[&str], &[&str]); 7] = [
+    (
+        "--side",
+        &["1", "5", "16", "64", "064", "+8"],
+        &["0", "65", "-1", "8.0", "", "x"],
+    ),
+    (
+        "--levels",
+        &["2", "3", "16", "32"],
+        &["1", "33", "0", "256", "two", "-"],
+    ),
+    (
+        "--lambda",
+        &["0", "60", "1048576", "1e3", "-0"],
+        &["-1", "1e7", "nan", "inf", ""],
+    ),
+    (
+        "--threads",
+        &["1", "2", "256"],
+        &["0", "257", "1.5", "999999999999999999999"],
+    ),
+    (
+        "--costs",
+        &["costs", "./costs"],
+        &["absent", "a.pgm", ".", "few", "high"],
+    ),
+    ("--lists", &["l", "./l", "-"], &["absent/l", ".", "costs/l"]),
+    ("--picture", &["p"], &["absent/p", "..", "-"]),
+];
 
 /// Words for the command line, and whether they are in order.
 fn options(random: &mut Random) -> (Vec<String>, bool) {
     let mut words = Vec::new();
     let mut good = true;
-    let all: [(&str, &[&str], &[&str]); 7] = [
-        (
-            "--side",
-            &["1", "5", "16", "64", "064", "+8"],
-            &["0", "65", "-1", "8.0", "", "x"],
-        ),
-        (
-            "--levels",
-            &["2", "3", "16", "32"],
-            &["1", "33", "0", "256", "two", "-"],
-        ),
-        (
-            "--lambda",
-            &["0", "60", "1048576", "1e3", "-0"],
-            &["-1", "1e7", "nan", "inf", ""],
-        ),
-        (
-            "--threads",
-            &["1", "2", "256"],
-            &["0", "257", "1.5", "999999999999999999999"],
-        ),
-        (
-            "--costs",
-            &["costs", "./costs"],
-            &["absent", "a.pgm", ".", "few", "high"],
-        ),
-        ("--lists", &["l", "./l", "-"], &["absent/l", ".", "costs/l"]),
-        ("--picture", &["p"], &["absent/p", "..", "-"]),
-    ];
-    for (name, right, wrong) in all {
+    for (name, right, wrong) in OPTIONS {
         let (values, known) = match random.below(40) {
             0..=19 => continue,
             20..=38 => (right, true),
