@@ -7,9 +7,6 @@ use palette_station::{
     context, list, list_into, pred_into, search, search_into, Block, Colors, Costs, Palette,
     Refusal,
 };
-use std::io::Write;
-use std::path::{Path, PathBuf};
-use std::process::{Command, Stdio};
 
 fn search_number(change: impl FnOnce(&mut Block, &mut f32, &mut [f32; 301])) -> u32 {
     let samples = halves(32);
@@ -77,27 +74,13 @@ fn prediction_7_and_context_18() {
     assert_eq!(context(&[0; 4], 2, 0, 0, 2), Err(Refusal::CONTEXT));
 }
 
-/// Only the listing program gives 17: LIST_PROGRAM names it, else it is looked for beside this
-/// package.
+/// Only the listing program gives 17.
 #[test]
 fn text_17() {
-    let beside = Path::new(env!("CARGO_MANIFEST_DIR")).join("../target/bin/list");
-    let program = std::env::var_os("LIST_PROGRAM").map_or(beside, PathBuf::from);
-    if !program.exists() {
-        eprintln!("skipped: no listing program (set LIST_PROGRAM, or run `rt check list`)");
+    let Some(printed) = common::listing_program(b"no palette\n") else {
         return;
-    }
-    let pipes = (Stdio::piped(), Stdio::piped());
-    let mut child = Command::new(program)
-        .stdin(pipes.0)
-        .stdout(pipes.1)
-        .spawn()
-        .expect("it runs");
-    let mut input = child.stdin.take().expect("a pipe");
-    input.write_all(b"no palette\n").expect("it reads");
-    drop(input);
-    let output = child.wait_with_output().expect("it ends");
-    let fields = String::from_utf8_lossy(&output.stdout);
+    };
+    let fields = String::from_utf8_lossy(&printed);
     let fields: Vec<u32> = fields
         .split_whitespace()
         .map(|f| f.parse().unwrap())

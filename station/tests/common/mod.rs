@@ -5,6 +5,9 @@ pub mod decode;
 
 use palette_station::{Block, Colors, Palette};
 use std::env;
+use std::io::Write;
+use std::path::{Path, PathBuf};
+use std::process::{Command, Stdio};
 
 /// Fills buffers before a call, so that a write shows.
 pub const BYTE: u8 = 0xee;
@@ -48,6 +51,26 @@ pub fn counting(width: usize, height: usize, n: usize) -> Palette {
 pub fn cases(count: usize) -> usize {
     let times = env::var("STATION_TIMES").ok();
     count * times.map_or(1, |times| times.parse().expect("a whole number"))
+}
+
+/// What the listing program prints for a text. LIST_PROGRAM names the program, else it is looked
+/// for beside this package; none where it is not built.
+pub fn listing_program(text: &[u8]) -> Option<Vec<u8>> {
+    let beside = Path::new(env!("CARGO_MANIFEST_DIR")).join("../target/bin/list");
+    let program = env::var_os("LIST_PROGRAM").map_or(beside, PathBuf::from);
+    if !program.exists() {
+        eprintln!("skipped: no listing program (set LIST_PROGRAM, or run `rt check list`)");
+        return None;
+    }
+    let mut child = Command::new(program)
+        .stdin(Stdio::piped())
+        .stdout(Stdio::piped())
+        .spawn()
+        .expect("it runs");
+    let mut input = child.stdin.take().expect("a pipe");
+    input.write_all(text).expect("it reads");
+    drop(input);
+    Some(child.wait_with_output().expect("it ends").stdout)
 }
 
 /// Random numbers by splitmix64.
