@@ -176,7 +176,8 @@ fn program_text(palette: &Palette) -> String {
 #[test]
 fn lists_are_what_the_listing_program_prints() {
     let mut random = Random(17);
-    for place in 0..cases(40) {
+    let mut compared = 0;
+    while compared < cases(40) {
         let drawn = random.drawn();
         let samples = drawn.samples.iter().map(|&sample| sample as u16).collect();
         let sheet = Sheet::new(drawn.width, drawn.height, drawn.bd, samples).unwrap();
@@ -188,15 +189,11 @@ fn lists_are_what_the_listing_program_prints() {
             return;
         };
         let form = text(&sheet, &settings);
-        assert!(
-            form.ends_with(&[b"\n", &printed[..]].concat()),
-            "block {place}"
-        );
-        let lines = form.iter().filter(|&&byte| byte == b'\n').count();
-        assert_eq!(
-            lines,
-            51 + printed.iter().filter(|&&byte| byte == b'\n').count()
-        );
+        let due = [b"\n", &printed[..]].concat();
+        assert!(form.ends_with(&due), "block {compared}");
+        let lines = |text: &[u8]| text.iter().filter(|&&byte| byte == b'\n').count();
+        assert_eq!(lines(&form), 51 + lines(&printed), "block {compared}");
+        compared += 1;
     }
 }
 
