@@ -11,8 +11,7 @@ use crate::Refusal;
 ///
 /// // Two colours, one level, 64 levels.
 /// let sample = |cell: u16| [cell % 2 * 99, 240, cell % 64][usize::from(cell / 16 % 3)];
-/// let samples = (0..48).chain(48..96).chain(96..144).chain(144..192);
-/// let sheet = Sheet::new(48, 4, 8, samples.map(sample).collect())?;
+/// let sheet = Sheet::new(48, 4, 8, (0..192).map(sample).collect())?;
 /// let settings = Settings { side: 16, ..Settings::of_depth(8) };
 /// let form = sheet.search(&settings, 1, |_, _| {})?.form;
 /// let parts: Vec<Part> = form.blocks().map(|(_, part)| part).collect();

@@ -45,11 +45,11 @@ fn parts_that_a_killed_run_left_are_no_hindrance() {
     let mut child = waiting(&folder, "- --lists lists --picture picture");
     // More than a pipe holds: it is reading, and has tried its files before.
     child.stdin.as_mut().unwrap().write_all(first).unwrap();
-    let name = |target: &str, end: &str| format!(".{target}.{}.{end}part", child.id());
-    let mut all: Vec<String> = ["", "0.", "1."]
-        .iter()
-        .flat_map(|end| [name("lists", end), name("picture", end)])
-        .collect();
+    // As it names them, and as it did when the name was the target's.
+    let (id, before) = (child.id(), ["lists", "picture"]);
+    let numbered = (0..3).map(|tries| format!(".sheet.{id}.{tries}.part"));
+    let named = before.map(|target| format!(".{target}.{id}.part"));
+    let mut all: Vec<String> = numbered.chain(named).collect();
     for name in &all {
         fs::write(folder.join(name), "left").unwrap();
     }
@@ -88,6 +88,15 @@ fn a_replaced_file_keeps_its_mode() {
         );
         fs::remove_file(&path).unwrap();
     }
+}
+
+#[test]
+fn a_long_name_leaves_room_for_the_part() {
+    let folder = folder("long-name");
+    fs::write(folder.join("a.pgm"), pgm(20, 20, 255, bars)).unwrap();
+    let name = "n".repeat(255);
+    printed(&folder, &format!("a.pgm --lists {name}"));
+    assert_eq!(names(&folder), ["a.pgm", &name]);
 }
 
 #[test]

@@ -1,6 +1,5 @@
 //! Files that are written whole or not at all.
 
-use std::ffi::OsString;
 use std::fs::{self, File, OpenOptions, Permissions};
 use std::io::{self, BufWriter, ErrorKind, Write};
 #[cfg(unix)]
@@ -12,6 +11,7 @@ use std::process;
 pub struct Staged {
     part: PathBuf,
     target: PathBuf,
+    moved: bool,
 }
 
 /// Says early whether a file can be written, and leaves nothing behind.
@@ -28,8 +28,9 @@ pub fn stage(
 
 /// Moves every file to its target, once all of them are whole.
 pub fn commit(files: Vec<Staged>) -> Result<(), String> {
-    for file in files {
+    for mut file in files {
         fs::rename(&file.part, &file.target).map_err(|e| cannot_write(&file.target, &e))?;
+        file.moved = true;
     }
     Ok(())
 }
@@ -52,7 +53,11 @@ fn try_stage(
     let target = place(target);
     let old = replaced(&target)?;
     let (part, file) = create_part(&target, old.as_ref())?;
-    let staged = Staged { part, target };
+    let staged = Staged {
+        part,
+        target,
+        moved: false,
+    };
     if let Some(old) = old {
         file.set_permissions(old)?;
     }
@@ -77,18 +82,12 @@ fn replaced(target: &Path) -> io::Result<Option<Permissions>> {
 /// or by one in another container with the same process number.
 fn create_part(target: &Path, old: Option<&Permissions>) -> io::Result<(PathBuf, File)> {
     const MOST_TRIES: u32 = 1000;
-    let name = target
-        .file_name()
-        .ok_or_else(|| io::Error::other("no file name"))?;
     let mut options = OpenOptions::new();
     options.write(true).create_new(true);
     no_wider(&mut options, old);
     let mut tries = 0;
     loop {
-        let mut part = OsString::from(".");
-        part.push(name);
-        part.push(format!(".{}.{tries}.part", process::id()));
-        let part = folder(target).join(part);
+        let part = folder(target).join(format!(".sheet.{}.{tries}.part", process::id()));
         match options.open(&part) {
             Ok(file) => return Ok((part, file)),
             Err(e) if e.kind() == ErrorKind::AlreadyExists && tries < MOST_TRIES => tries += 1,
@@ -121,7 +120,9 @@ fn cannot_write(target: &Path, error: &io::Error) -> String {
 
 impl Drop for Staged {
     fn drop(&mut self) {
-        // After the rename there is nothing to remove, and that is as it should be.
-        let _ = fs::remove_file(&self.part);
+        // Once it is moved, another run may have taken the name.
+        if !self.moved {
+            let _ = fs::remove_file(&self.part);
+        }
     }
 }
