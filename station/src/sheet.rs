@@ -41,7 +41,8 @@
 //!
 //! # The form
 //!
-//! Lines of text, each ended by one line feed; numbers without leading zeros.
+//! Lines of text, each ended by one line feed; numbers without leading zeros, those of blocks at
+//! the right of fields of 8 columns.
 //!
 //! ```text
 //! palette-sheet 1            the form's name and version

@@ -29,7 +29,7 @@ impl Error for NoForm {}
 
 impl Form {
     /// Reads a whole form. What is read is written again as the same bytes, so that no two texts
-    /// stand for one sheet. Whether a palette has the lists is not asked.
+    /// are read as one form. Whether a search gives this form is not asked.
     ///
     /// ```
     /// use palette_station::sheet::{Form, Settings, Sheet};

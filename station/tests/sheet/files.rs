@@ -16,6 +16,18 @@ fn files_that_cannot_be_written() {
         }
     }
     refused(&folder, "--sample taken", "cannot write");
+    // What could only fail at the end, with the lists already there.
+    let long = "n".repeat(256);
+    for path in ["", "new/", "new/.", "taken/", &long] {
+        for lists in ["-", "lists"] {
+            let output = command(&folder, ["a.pgm", "--lists", lists, "--picture", path]);
+            let output = { output }.output().unwrap();
+            assert_eq!(output.status.code(), Some(1), "{path:?}");
+            assert!(output.stdout.is_empty(), "{path:?}");
+            assert_eq!(names(&folder), ["a.pgm", "taken"], "{path:?}");
+        }
+    }
+    refused(&folder, "a.pgm --lists -/", "cannot write");
     refused(
         &folder,
         "a.pgm --lists good --picture absent/p",
@@ -90,6 +102,54 @@ fn a_replaced_file_keeps_its_mode() {
     }
 }
 
+/// A link that leads to a file is followed; one that leads nowhere is left as it is.
+#[cfg(unix)]
+#[test]
+fn links_to_files() {
+    use std::os::unix::fs::symlink;
+    let folder = folder("links");
+    fs::write(folder.join("a.pgm"), pgm(20, 20, 255, bars)).unwrap();
+    fs::write(folder.join("old"), "old").unwrap();
+    symlink("old", folder.join("link")).unwrap();
+    symlink("nowhere", folder.join("loose")).unwrap();
+    printed(&folder, "a.pgm --lists link");
+    assert!(fs::symlink_metadata(folder.join("link"))
+        .unwrap()
+        .is_symlink());
+    assert!(fs::read(folder.join("old"))
+        .unwrap()
+        .starts_with(b"palette-sheet"));
+    refused(&folder, "a.pgm --lists loose", "not a plain file");
+    symlink("a.pgm", folder.join("scan")).unwrap();
+    refused(&folder, "a.pgm --lists scan", "used twice");
+}
+
+/// What standard input or output is redirected to is no place for another output.
+#[cfg(target_os = "linux")]
+#[test]
+fn files_behind_the_standard_streams_stay() {
+    let folder = folder("streams");
+    let scan = pgm(20, 20, 255, bars);
+    fs::write(folder.join("a.pgm"), &scan).unwrap();
+    for lists in ["a.pgm", "/dev/stdin"] {
+        let mut run = command(&folder, ["-", "--lists", lists]);
+        run.stdin(fs::File::open(folder.join("a.pgm")).unwrap());
+        assert_eq!(run.output().unwrap().status.code(), Some(1), "{lists}");
+        assert_eq!(fs::read(folder.join("a.pgm")).unwrap(), scan, "{lists}");
+    }
+    for lists in ["log", "/dev/stdout"] {
+        fs::write(folder.join("log"), "kept\n").unwrap();
+        let log = fs::OpenOptions::new().append(true).open(folder.join("log"));
+        let mut run = command(&folder, ["a.pgm", "--lists", lists]);
+        assert_eq!(
+            run.stdout(log.unwrap()).status().unwrap().code(),
+            Some(1),
+            "{lists}"
+        );
+        assert_eq!(fs::read(folder.join("log")).unwrap(), b"kept\n", "{lists}");
+    }
+}
+
 #[test]
 fn a_long_name_leaves_room_for_the_part() {
     let folder = folder("long-name");
@@ -123,17 +183,24 @@ fn lists_on_standard_output_and_the_summary_beside_it() {
     assert_eq!(names(&folder), ["a.pgm", "lists", "p"]);
 }
 
-/// Nothing takes its place where the lists cannot be printed.
+/// Nothing takes its place where the lists or the summary cannot be printed.
 #[cfg(target_os = "linux")]
 #[test]
 fn a_full_standard_output_leaves_no_file() {
     let folder = folder("full");
     fs::write(folder.join("a.pgm"), pgm(100, 70, 255, bars)).unwrap();
+    for lists in ["-", "lists"] {
+        check_full(&folder, lists);
+    }
+}
+
+#[cfg(target_os = "linux")]
+fn check_full(folder: &Path, lists: &str) {
     let full = fs::OpenOptions::new()
         .write(true)
         .open("/dev/full")
         .unwrap();
-    let output = command(&folder, ["a.pgm", "--lists", "-", "--picture", "p"])
+    let output = command(folder, ["a.pgm", "--lists", lists, "--picture", "p"])
         .stdout(full)
         .output()
         .unwrap();
@@ -141,5 +208,5 @@ fn a_full_standard_output_leaves_no_file() {
     assert!(String::from_utf8(output.stderr)
         .unwrap()
         .starts_with("sheet: cannot print"));
-    assert_eq!(names(&folder), ["a.pgm"]);
+    assert_eq!(names(folder), ["a.pgm"]);
 }

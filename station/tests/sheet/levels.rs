@@ -1,7 +1,9 @@
 //! Rounding to a few greys, and lambda by the depth.
 
 use crate::command::{blocks, folder, form, pgm, printed, value};
+use crate::common::Random;
 use palette_station::sheet::{Levels, Settings};
+use std::collections::BTreeSet;
 use std::fs;
 
 fn all() -> impl Iterator<Item = (Levels, u32)> {
@@ -106,6 +108,67 @@ fn rounded_blocks_have_palettes() {
     for count in [2, 16, 32] {
         let words = format!("a.pgm --levels {count}");
         assert_eq!(with(&words), "4 (100.0 % of the drawn)", "{count}");
+    }
+}
+
+/// The sample drawing as a poor scanner sees it: each sample with its neighbours, weights 1, 2, 1
+/// both ways, and the sum of four random numbers, halved.
+fn poor_scan(drawing: &[u8], noise: u64) -> Vec<u8> {
+    let (width, height) = (2480, 3508);
+    let mut random = Random(2024);
+    let at =
+        |x: usize, y: usize| usize::from(drawing[y.min(height - 1) * width + x.min(width - 1)]);
+    let across = |x: usize, y: usize| at(x.saturating_sub(1), y) + 2 * at(x, y) + at(x + 1, y);
+    let mut bytes = format!("P5 {width} {height} 255\n").into_bytes();
+    for (y, x) in (0..height).flat_map(|y| (0..width).map(move |x| (y, x))) {
+        let sum = across(x, y.saturating_sub(1)) + 2 * across(x, y) + across(x, y + 1);
+        let four: u64 = (0..4).map(|_| random.below(2 * noise + 1)).sum();
+        let sample = (sum + 8) / 16 + four as usize / 2;
+        bytes.push(sample.saturating_sub(2 * noise as usize).min(255) as u8);
+    }
+    bytes
+}
+
+/// The blocks of 2 to 32 levels, which have a palette, and all of more than one.
+fn by_levels(samples: &[u8]) -> String {
+    let mut blocks = vec![BTreeSet::new(); 39 * 55];
+    for (cell, &sample) in samples.iter().enumerate() {
+        let (x, y) = (cell % 2480, cell / 2480);
+        blocks[y / 64 * 39 + x / 64].insert(sample);
+    }
+    let count = |most| {
+        blocks
+            .iter()
+            .filter(|levels| (2..=most).contains(&levels.len()))
+            .count()
+    };
+    format!("{} of {}", count(32), count(256))
+}
+
+#[test]
+fn a_poor_scan_has_palettes_after_rounding() {
+    let folder = folder("poor-scan");
+    printed(&folder, "--sample drawing.pgm");
+    let drawing = fs::read(folder.join("drawing.pgm")).unwrap();
+    let drawing = &drawing[drawing.len() - 2480 * 3508..];
+    for noise in [3, 12] {
+        let scan = poor_scan(drawing, noise);
+        fs::write(folder.join("a.pgm"), &scan).unwrap();
+        let palettes = |words: &str| {
+            let summary = printed(&folder, words);
+            let count = |name| value(&summary, name).split(' ').next().unwrap().to_string();
+            format!("{} of {}", count("with palette"), count("drawn"))
+        };
+        let samples = &scan[scan.len() - drawing.len()..];
+        // The greys of 16 levels at depth 8 are the multiples of 17.
+        let greys: Vec<u8> = samples
+            .iter()
+            .map(|v| (v.saturating_add(8)) / 17 * 17)
+            .collect();
+        let due = [by_levels(samples), by_levels(&greys)];
+        let found = [palettes("a.pgm"), palettes("a.pgm --levels 16")];
+        eprintln!("noise of up to {}: {found:?}", 2 * noise);
+        assert_eq!(found, due);
     }
 }
 

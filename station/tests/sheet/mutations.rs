@@ -67,6 +67,7 @@ fn header(bytes: &[u8]) -> Option<([u64; 3], usize)> {
     let plain = without_remarks(bytes);
     let is_space = |byte: u8| b" \t\n\r\x0b\x0c".contains(&byte);
     let mut rest = plain.iter().copied().peekable();
+    rest.next_if(|&(byte, _)| is_space(byte))?;
     let mut numbers = [0; 3];
     let mut start = 0;
     for number in &mut numbers {
@@ -213,12 +214,15 @@ fn check(folder: &Path, words: &[String], due: bool, output: &Output, before: &[
         "{words:?}"
     );
     assert!(dashed || errors.is_empty(), "{words:?}: {errors}");
-    for name in ["l", "p"] {
-        let asked = words
+    let is_asked = |name: &&str| {
+        words
             .iter()
-            .any(|word| word == name || *word == format!("./{name}"));
-        assert_eq!(after.contains(&name.to_string()), asked, "{words:?}");
-    }
+            .any(|word| word.trim_start_matches("./") == *name)
+    };
+    let asked = ["l", "p"].into_iter().filter(is_asked).map(String::from);
+    let mut all: Vec<String> = before.iter().cloned().chain(asked).collect();
+    all.sort();
+    assert_eq!(after, all, "{words:?}");
 }
 
 #[test]

@@ -51,7 +51,9 @@ fn comments_in_the_header() {
 fn bad_sheets() {
     let folder = folder("bad-sheets");
     let whole = pgm(20, 20, 255, bars);
-    let cases: [(&str, Vec<u8>); 16] = [
+    let cases: [(&str, Vec<u8>); 18] = [
+        ("not a PGM", b"P51 1 255\nx".to_vec()),
+        ("cut off in row 0", b"P5 1073741824 1 4095\nxx".to_vec()),
         ("not a PGM", Vec::new()),
         ("not a PGM", b"P2\n1 1\n255\n7\n".to_vec()),
         ("cut off in the header", b"P5\n20 20\n255".to_vec()),

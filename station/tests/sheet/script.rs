@@ -2,16 +2,18 @@
 #![cfg(unix)]
 
 use crate::command::folder;
-use std::fs;
+use std::fs::{self, File};
 use std::os::unix::fs::{symlink, PermissionsExt};
 use std::path::{Path, PathBuf};
-use std::process::{Command, Output};
+use std::process::{Command, Output, Stdio};
 use std::thread;
 use std::time::Duration;
 
-/// Says what the kit's command says, many lines a crate, and writes the archive.
+/// Says what the kit's command says, many lines a crate, and writes the archive. It reads what it
+/// can get, as no command of a build should.
 const RT: &str = r#"#!/bin/sh
 echo "rt $*" >>"$CALLS"
+cat >/dev/null
 for crate in lists counts; do
     echo "fn $crate::one: proved"
     echo "logic=proved functions=1"
@@ -20,15 +22,17 @@ done
 if [ -n "$RT_EDITS" ]; then sleep 0.02; echo edited >crates/lists/src/lib.rt; sleep 0.02; fi
 if [ -n "$RT_FAILS" ]; then echo "crate station: not proved"; exit 1; fi
 mkdir -p target/staticlib
+if [ -n "$RT_DIES" ]; then echo half >target/staticlib/libstation.a; kill -9 $$; fi
 date +%s%N >target/staticlib/libstation.a
 echo "rt: target/staticlib/libstation.a has the functions of station that are marked"
 "#;
 
-/// Makes the command: a script that says the archive it was made of, and its arguments.
+/// Makes the command: a script that says the archive it was made of, its arguments and its input.
 const CARGO: &str = r#"#!/bin/sh
 echo "cargo $1" >>"$CALLS"
+cat >/dev/null
 mkdir -p target/release
-printf '#!/bin/sh\necho "%s: $*"\n' "$(cat "$STATION_LIB/libstation.a")" >target/release/sheet
+printf '#!/bin/sh\necho "%s: $*"\ncat\n' "$(cat "$STATION_LIB/libstation.a")" >target/release/sheet
 chmod +x target/release/sheet
 "#;
 
@@ -74,6 +78,7 @@ impl Repository {
             .args(["--side", "8"])
             .env("PATH", path)
             .env("CALLS", self.folder.join("calls"))
+            .stdin(Stdio::null())
             .current_dir("/");
         command
     }
@@ -167,6 +172,33 @@ fn a_change_while_it_is_built_is_not_lost() {
     assert!(calls.is_empty(), "{calls:?}");
 }
 
+/// By the time of the archive cargo tells that the command is to be linked again.
+#[test]
+fn what_is_built_keeps_its_time() {
+    let repository = Repository::new("script-times");
+    let output = repository
+        .command("top/sheet")
+        .env("RT_EDITS", "1")
+        .output();
+    assert!(output.unwrap().status.success());
+    let time = |path: &str| {
+        let path = repository.folder.join("top").join(path);
+        fs::metadata(path).unwrap().modified().unwrap()
+    };
+    assert!(time("target/staticlib/libstation.a") > time("crates/lists/src/lib.rt"));
+    assert!(time("crates/lists/src/lib.rt") > time("target/sheet.library"));
+}
+
+#[test]
+fn standard_input_is_the_commands() {
+    let repository = Repository::new("script-input");
+    fs::write(repository.folder.join("scan"), "a scan\n").unwrap();
+    let scan = File::open(repository.folder.join("scan")).unwrap();
+    let output = repository.command("top/sheet").stdin(scan).output();
+    let printed = text(output.unwrap().stdout);
+    assert!(printed.ends_with(": --side 8\na scan\n"), "{printed}");
+}
+
 #[test]
 fn a_symbolic_link_finds_its_folder() {
     let repository = Repository::new("script-link");
@@ -177,7 +209,11 @@ fn a_symbolic_link_finds_its_folder() {
     symlink("../top/sheet", at("links/near")).unwrap();
     symlink("near", at("links/twice")).unwrap();
     symlink("top", at("linked-folder")).unwrap();
+    fs::create_dir_all(at("deep/er")).unwrap();
+    symlink("../../top/sheet", at("deep/er/sheet")).unwrap();
+    symlink("../deep/er", at("links/deep")).unwrap();
     for script in [
+        "links/deep/sheet",
         "links/far",
         "links/near",
         "links/twice",
@@ -217,7 +253,28 @@ fn a_library_that_cannot_be_built_is_not_run() {
             "{errors}"
         );
     }
+    let log = repository.folder.join("top/target/staticlib.log");
+    fs::remove_file(&log).unwrap();
+    fs::create_dir(&log).unwrap();
+    let output = repository
+        .command("top/sheet")
+        .env("RT_FAILS", "1")
+        .output();
+    failed(output.unwrap());
+    fs::remove_dir(&log).unwrap();
     fs::remove_file(repository.folder.join("bin/rt")).unwrap();
     let errors = failed(repository.command("top/sheet").output().unwrap());
     assert!(errors.contains("`rt` is not on the PATH"), "{errors}");
+}
+
+#[test]
+fn a_build_that_was_broken_off_is_done_again() {
+    let repository = Repository::new("script-broken-off");
+    let output = repository.command("top/sheet").env("RT_DIES", "1").output();
+    failed(output.unwrap());
+    let (printed, _, calls) = repository.run("top/sheet");
+    assert_eq!(calls, BOTH);
+    assert!(!printed.contains("half"), "{printed}");
+    let names = fs::read_dir(repository.folder.join("top/target")).unwrap();
+    assert_eq!(names.count(), 4, "log, archive and two stamps");
 }

@@ -20,7 +20,7 @@ use std::fs::File;
 use std::io::{self, BufReader, BufWriter, Write};
 use std::process::ExitCode;
 use std::time::{Duration, Instant};
-use summary::Times;
+use whole::Staged;
 
 fn main() -> ExitCode {
     match run() {
@@ -53,16 +53,16 @@ fn work(options: &Options) -> Result<(), String> {
     };
     let scan = scan(options)?;
     let (searched, search) = search(options, costs, &scan)?;
-    write_out(options, &scan, &searched.form)?;
-    let all = start.elapsed();
-    let times = Times { search, all };
-    // What is asked for on standard output stands there alone.
+    // All files are whole and all is printed before the first file takes its place.
+    let files = stage(options, &scan, &searched.form)?;
     let printed = if options.prints_lists() {
-        summary::write(&searched, &times, &mut io::stderr().lock())
+        print_lists(&searched.form)
+            .and_then(|()| summary::write(&searched, search, start, &mut io::stderr().lock()))
     } else {
-        summary::write(&searched, &times, &mut io::stdout().lock())
+        summary::write(&searched, search, start, &mut io::stdout().lock())
     };
-    printed.map_err(cannot_print)
+    printed.map_err(cannot_print)?;
+    whole::commit(files)
 }
 
 fn scan(options: &Options) -> Result<Scan, String> {
@@ -98,8 +98,7 @@ fn search(options: &Options, costs: Costs, scan: &Scan) -> Result<(Searched, Dur
     Ok((searched, start.elapsed()))
 }
 
-/// All files are whole, and standard output is written, before the first file takes its place.
-fn write_out(options: &Options, scan: &Scan, form: &Form) -> Result<(), String> {
+fn stage(options: &Options, scan: &Scan, form: &Form) -> Result<Vec<Staged>, String> {
     let mut files = Vec::new();
     if let Some(path) = options.lists_file() {
         files.push(whole::stage(path, |out| form.write(out))?);
@@ -110,10 +109,7 @@ fn write_out(options: &Options, scan: &Scan, form: &Form) -> Result<(), String> 
     if let Some(path) = &options.sample {
         files.push(whole::stage(path, |out| pgm::write(scan, out))?);
     }
-    if options.prints_lists() {
-        print_lists(form).map_err(cannot_print)?;
-    }
-    whole::commit(files)
+    Ok(files)
 }
 
 fn print_lists(form: &Form) -> io::Result<()> {

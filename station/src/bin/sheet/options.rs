@@ -2,6 +2,7 @@
 
 use crate::whole;
 use palette_station::sheet::Levels;
+use palette_station::MAX_SIDE;
 use std::ffi::{OsStr, OsString};
 use std::path::{Path, PathBuf};
 use std::str::FromStr;
@@ -33,7 +34,6 @@ standard input. Without FILE a sample drawing is made and searched.
   --help          print this
 ";
 
-const MOST_SIDE: usize = 64;
 const MOST_THREADS: usize = 256;
 const MOST_LAMBDA: f32 = 1_048_576.0;
 
@@ -68,7 +68,7 @@ impl Options {
 
 /// Standard input or output.
 pub fn is_dash(path: &Path) -> bool {
-    path == Path::new("-")
+    path.as_os_str() == "-"
 }
 
 pub enum Request {
@@ -105,7 +105,7 @@ pub fn parse(words: impl Iterator<Item = OsString>) -> Result<Request, String> {
 fn defaults() -> Options {
     Options {
         input: None,
-        side: MOST_SIDE,
+        side: MAX_SIDE,
         levels: None,
         lambda: None,
         threads: 1,
@@ -147,7 +147,7 @@ fn known(word: &OsStr) -> Result<&'static str, String> {
 
 fn set(options: &mut Options, name: &str, value: OsString) -> Result<(), String> {
     match name {
-        "--side" => options.side = whole_number(name, &value, MOST_SIDE)?,
+        "--side" => options.side = whole_number(name, &value, MAX_SIDE)?,
         "--levels" => options.levels = Some(levels(&value)?),
         "--threads" => options.threads = whole_number(name, &value, MOST_THREADS)?,
         "--lambda" => options.lambda = Some(lambda(&value)?),
@@ -190,21 +190,22 @@ fn parsed<T: FromStr>(value: &OsStr) -> Option<T> {
     value.to_str()?.parse().ok()
 }
 
-/// No output may fall on another one or on what is read.
+/// No output may fall on another one, on what is read, or on the file behind a standard stream.
 fn check(options: &Options) -> Result<(), String> {
     if options.input.is_some() && options.sample.is_some() {
         return Err("--sample goes without a sheet".to_string());
     }
+    let streams = ["/dev/stdin", "/dev/stdout", "/dev/stderr"].map(Path::new);
     let input = options.input.as_deref().filter(|path| !is_dash(path));
     let read = [input, options.costs.as_deref()].into_iter().flatten();
-    let mut taken: Vec<PathBuf> = read.map(whole::place).collect();
+    let mut taken: Vec<PathBuf> = streams.into_iter().chain(read).map(whole::place).collect();
     for path in options.files() {
         if is_dash(path) {
             return Err("only the sheet and --lists may be -".to_string());
         }
         let place = whole::place(path);
         if taken.contains(&place) {
-            return Err(format!("{} is named twice", path.display()));
+            return Err(format!("{} is used twice", path.display()));
         }
         taken.push(place);
     }

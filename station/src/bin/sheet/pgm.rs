@@ -53,20 +53,23 @@ fn check_sides(width: usize, height: usize) -> Result<(), String> {
     }
 }
 
-/// Row by row, so that a header that promises too much takes no more room than the file has.
+/// Row by row as far as the file goes, so that a header that promises too much takes no more room
+/// than the file has.
 fn read_rows(
     input: &mut impl Read,
     width: usize,
     height: usize,
     maxval: u16,
 ) -> Result<Vec<u16>, String> {
-    let mut bytes = vec![0; width * sample_bytes(maxval)];
+    let wanted = width * sample_bytes(maxval);
+    let mut bytes = Vec::new();
     let mut samples = Vec::new();
     for y in 0..height {
-        input.read_exact(&mut bytes).map_err(|e| match e.kind() {
-            io::ErrorKind::UnexpectedEof => format!("cut off in row {y} of {height}"),
-            _ => e.to_string(),
-        })?;
+        bytes.clear();
+        let row = input.by_ref().take(wanted as u64).read_to_end(&mut bytes);
+        if row.map_err(|e| e.to_string())? < wanted {
+            return Err(format!("cut off in row {y} of {height}"));
+        }
         let start = samples.len();
         push_row(&bytes, maxval, &mut samples);
         if let Some(x) = samples[start..].iter().position(|&v| v > maxval) {
@@ -112,7 +115,7 @@ struct Header<'a, R: Read> {
 impl<R: Read> Header<'_, R> {
     fn magic(&mut self) -> Result<(), String> {
         let start = [next_byte(self.input)?, next_byte(self.input)?];
-        if start == [Some(b'P'), Some(b'5')] {
+        if start == [Some(b'P'), Some(b'5')] && is_space(self.byte("width")?) {
             Ok(())
         } else {
             Err("not a PGM file (P5)".to_string())

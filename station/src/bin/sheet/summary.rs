@@ -3,17 +3,10 @@
 use palette_station::sheet::{Form, Levels, Part, Searched};
 use palette_station::Refusal;
 use std::io::{self, Write};
-use std::time::Duration;
+use std::time::{Duration, Instant};
 
 /// What intake has for a sheet.
 const SECONDS_ALLOWED: u32 = 4;
-
-pub struct Times {
-    /// Search and listing.
-    pub search: Duration,
-    /// From the first file read to the last one written.
-    pub all: Duration,
-}
 
 /// A block is blank, or drawn with a palette or without one.
 #[derive(Default)]
@@ -25,7 +18,13 @@ struct Tally {
     calls: u64,
 }
 
-pub fn write(searched: &Searched, times: &Times, output: &mut impl Write) -> io::Result<()> {
+/// `search` is the time of search and listing, `start` when the run began.
+pub fn write(
+    searched: &Searched,
+    search: Duration,
+    start: Instant,
+    output: &mut impl Write,
+) -> io::Result<()> {
     let form = &searched.form;
     let tally = tally(form);
     let settings = form.settings();
@@ -48,8 +47,8 @@ pub fn write(searched: &Searched, times: &Times, output: &mut impl Write) -> io:
     )?;
     line("calls", tally.calls.to_string())?;
     line("raw width", raw_width(searched.raw_width))?;
-    line("seconds", seconds(times))?;
-    line("samples a second", speed(form, times.search))?;
+    line("seconds", seconds(start.elapsed(), search))?;
+    line("samples a second", speed(form, search))?;
     if tally.without() * 10 > tally.drawn() {
         line("warning", warning(&tally))?;
     }
@@ -102,8 +101,8 @@ fn raw_width(bits: u64) -> String {
     format!("{bits} bits that the coder writes as they are")
 }
 
-fn seconds(times: &Times) -> String {
-    let (all, search) = (times.all.as_secs_f64(), times.search.as_secs_f64());
+fn seconds(all: Duration, search: Duration) -> String {
+    let (all, search) = (all.as_secs_f64(), search.as_secs_f64());
     format!("{all:.3} of {SECONDS_ALLOWED} allowed; search and listing {search:.3}")
 }
 

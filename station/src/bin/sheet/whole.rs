@@ -14,7 +14,7 @@ pub struct Staged {
     moved: bool,
 }
 
-/// Says early whether a file can be written, and leaves nothing behind.
+/// Says early whether a file can be written beside its target, and leaves nothing behind.
 pub fn probe(target: &Path) -> Result<(), String> {
     stage(target, |_| Ok(())).map(drop)
 }
@@ -50,6 +50,9 @@ fn try_stage(
     target: &Path,
     fill: impl FnOnce(&mut BufWriter<File>) -> io::Result<()>,
 ) -> io::Result<Staged> {
+    if !ends_in_a_name(target) {
+        return Err(io::Error::other("no file name"));
+    }
     let target = place(target);
     let old = replaced(&target)?;
     let (part, file) = create_part(&target, old.as_ref())?;
@@ -68,13 +71,21 @@ fn try_stage(
     Ok(staged)
 }
 
+/// Not so of an empty path, `..`, or one with a slash at its end.
+fn ends_in_a_name(path: &Path) -> bool {
+    let bytes = path.as_os_str().as_encoded_bytes();
+    let name = path.file_name();
+    name.is_some_and(|name| bytes.ends_with(name.as_encoded_bytes()))
+}
+
 /// The permissions of the file that stands there. A rename would put a plain file in the place
-/// of a device or a pipe.
+/// of a device, a pipe or a link that leads nowhere.
 fn replaced(target: &Path) -> io::Result<Option<Permissions>> {
     match fs::metadata(target) {
-        Ok(found) if !found.is_file() => Err(io::Error::other("not a plain file")),
-        Ok(found) => Ok(Some(found.permissions())),
-        Err(_) => Ok(None),
+        Ok(found) if found.is_file() => Ok(Some(found.permissions())),
+        Err(e) if e.kind() != ErrorKind::NotFound => Err(e),
+        Err(_) if fs::symlink_metadata(target).is_err() => Ok(None),
+        _ => Err(io::Error::other("not a plain file")),
     }
 }
 
@@ -96,7 +107,7 @@ fn create_part(target: &Path, old: Option<&Permissions>) -> io::Result<(PathBuf,
     }
 }
 
-/// Nobody may read the new file who may not read the old one, not even at its start.
+/// The mode of the new file is never wider than that of the old one, not even at its start.
 #[cfg(unix)]
 fn no_wider(options: &mut OpenOptions, old: Option<&Permissions>) {
     if let Some(old) = old {
