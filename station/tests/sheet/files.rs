@@ -141,11 +141,8 @@ fn files_behind_the_standard_streams_stay() {
         fs::write(folder.join("log"), "kept\n").unwrap();
         let log = fs::OpenOptions::new().append(true).open(folder.join("log"));
         let mut run = command(&folder, ["a.pgm", "--lists", lists]);
-        assert_eq!(
-            run.stdout(log.unwrap()).status().unwrap().code(),
-            Some(1),
-            "{lists}"
-        );
+        let output = run.stdout(log.unwrap()).output().unwrap();
+        assert_eq!(output.status.code(), Some(1), "{lists}");
         assert_eq!(fs::read(folder.join("log")).unwrap(), b"kept\n", "{lists}");
     }
 }
