@@ -158,24 +158,10 @@ fn a_change_in_a_crate_builds_the_library_again() {
     assert_eq!((errors.as_str(), calls), ("", vec![BOTH[1].to_string()]));
 }
 
+/// What is built keeps its own time, by which cargo tells that the command is to be linked again.
 #[test]
 fn a_change_while_it_is_built_is_not_lost() {
     let repository = Repository::new("script-meanwhile");
-    let output = repository
-        .command("top/sheet")
-        .env("RT_EDITS", "1")
-        .output();
-    assert!(output.unwrap().status.success());
-    let (.., calls) = repository.run("top/sheet");
-    assert_eq!(calls, BOTH);
-    let (.., calls) = repository.run("top/sheet");
-    assert!(calls.is_empty(), "{calls:?}");
-}
-
-/// By the time of the archive cargo tells that the command is to be linked again.
-#[test]
-fn what_is_built_keeps_its_time() {
-    let repository = Repository::new("script-times");
     let output = repository
         .command("top/sheet")
         .env("RT_EDITS", "1")
@@ -186,7 +172,10 @@ fn what_is_built_keeps_its_time() {
         fs::metadata(path).unwrap().modified().unwrap()
     };
     assert!(time("target/staticlib/libstation.a") > time("crates/lists/src/lib.rt"));
-    assert!(time("crates/lists/src/lib.rt") > time("target/sheet.library"));
+    let (.., calls) = repository.run("top/sheet");
+    assert_eq!(calls, BOTH);
+    let (.., calls) = repository.run("top/sheet");
+    assert!(calls.is_empty(), "{calls:?}");
 }
 
 #[test]
