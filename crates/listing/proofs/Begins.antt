@@ -46,7 +46,9 @@ unfolding callList mapWords
 palette-splits w h bd cache p q a b =
     let f = facts w h bd cache p a in
     let g = facts w h bd cache q b in
-    then (color-splits bd cache (p .colors) (q .colors) (levels-ascend bd (p .colors) (f .levels)) (levels-ascend bd (q .colors) (g .levels)) (f .enough) (g .enough)) λ c.
+    let pa = levels-ascend bd (p .colors) (f .levels) in
+    let qa = levels-ascend bd (q .colors) (g .levels) in
+    then (color-splits bd cache (p .colors) (q .colors) pa qa (f .enough) (g .enough)) λ c.
     then (orient-splits w h (p .transposed) (q .transposed) (a .orient) (b .orient)) λ t.
     weaken {K = (p .flags ≡ q .flags) × (p .map ≡ q .map)} (λ k. record { colors = c; transposed = t; flags = k .0; map = k .1 })
     (rw (← t, ← c)

@@ -13,7 +13,8 @@ use Rattle.listing.proofs.fill_values.Statement.{statement}
 use Rattle.listing.proofs.fill_values.Tie as tie
 
 abbrev Inv-loop : tie.InvT-loop
-Inv-loop colors map values₀ i₀ values i = (i ≤ length map) × (length values ≡ length values₀) × (values ≡ valuesOf colors (take i map) ++ drop i values₀)
+Inv-loop colors map values₀ i₀ values i =
+    (i ≤ length map) × (length values ≡ length values₀) × (values ≡ valuesOf colors (take i map) ++ drop i values₀)
 
 abbrev μ-loop : tie.MeasureT-loop
 μ-loop colors map values₀ i₀ values i = length map - i
@@ -44,10 +45,12 @@ loop-less c = search needs
 
 loop-again : tie.Need-loop-again Inv-loop μ-loop
 loop-again c = let s = c .before .before .before .before .before .before .before in
-    let l = c .before .before .before .before .loop in (
+    let l = c .before .before .before .before .loop in
+    let below = c .before .before .before .loop-test .taken in (
       search needs,
       length-set (l .values) (l .i) _ ∙ l .inv .1,
-      rw (c .value-of .ensures, c .before .color-of .ensures, l .inv .2) (value-more (λ k. ofInt binary32 (pos (getD (s .args .colors) k 0))) (s .args .map .now) (s .args .values .now) (l .i) (c .before .before .before .loop-test .taken) (s .pre .0)),
+      rw (c .value-of .ensures, c .before .color-of .ensures, l .inv .2)
+          (value-more (λ k. ofInt binary32 (pos (getD (s .args .colors) k 0))) (s .args .map .now) (s .args .values .now) (l .i) below (s .pre .0)),
     )
 
 same-length : tie.Need-same-length Inv-loop μ-loop

@@ -36,8 +36,9 @@ same-length c = search needs
 
 returns : tie.Need-returns
 returns c =
-    let start = c .before .before .before .before .before .before .before .before .before .before .before .before .before .before .before .before .before .args in
-    let r = c .before .before .before .before .before .before .before .before .before .before .read-palette in
+    let read = c .before .before .before .before .before .before .before .before .before .before in
+    let start = read .before .before .before .before .before .before .before .args in
+    let r = read .read-palette in
     let e = answer-refused (now (start .s)) (r .result) (r .ensures .0 .0) (c .before .before .before .before .if1 .taken) in
     let p = c .before .before .print-refused .ensures in
     (omega (arith, p .0, ap length e), p .1 ∙ ap (λ (x : List ℕ). written (now (start .out)) 0 x) e)
@@ -52,15 +53,20 @@ same-length-2 : tie.Need-same-length-2
 same-length-2 c = search needs
 
 -- past the second test the text ends with its last row
-ended : (c : tie.Else2) → c .before .before .places-of .result .end ≡ length (now (c .before .before .before .before .before .before .before .before .before .before .before .before .before .before .before .before .args .s))
+ended : (c : tie.Else2)
+    → c .before .before .places-of .result .end
+    ≡ length
+    (now (c .before .before .before .before .before .before .before .before .before .before .before .before .before .before .before .before .args .s))
 ended c = c .if2 .left
 
 returns-2 : tie.Need-returns-2
 returns-2 c =
-    let start = c .before .before .before .before .before .before .before .before .before .before .before .before .before .before .before .before .before .before .before .before .args in
-    let r = c .before .before .before .before .before .before .before .before .before .before .before .before .before .read-palette in
+    let read = c .before .before .before .before .before .before .before .before .before .before .before .before .before in
+    let start = read .before .before .before .before .before .before .before .args in
+    let r = read .read-palette in
     let end = ap (λ (x : Places). x .end) (c .before .before .before .before .before .before .places-of .ensures .0) in
-    let e = answer-more (now (start .s)) (r .result) (r .ensures .0 .0) (c .before .before .before .before .before .before .before .if1 .left) (λ z. c .before .before .before .before .if2 .taken (end ∙ z)) in
+    let first = c .before .before .before .before .before .before .before .if1 .left in
+    let e = answer-more (now (start .s)) (r .result) (r .ensures .0 .0) first (λ z. c .before .before .before .before .if2 .taken (end ∙ z)) in
     let p = c .before .before .print-refused2 .ensures in
     (omega (arith, p .0, ap length e), p .1 ∙ ap (λ (x : List ℕ). written (now (start .out)) 0 x) e)
 
@@ -95,20 +101,25 @@ slice-aggregate-print-palette-3 c =
     sym (length-take-le _ (r .last .1 .1 .1 .0) (omega (arith, r .kept .1 .1 .1 .0, r .ensures .0 .1 .cached)))
 
 print-palette-requires : tie.Need-print-palette-requires
-print-palette-requires c κs = c .before .before .before .before .before .before .before .before .before .before .before .before .before .before .before .before .before .before .before .before .before .before .pre
+print-palette-requires c κs =
+    let read = c .before .before .before .before .before .before .before .before .before .before .before .before .before .before .before in
+    read .before .before .before .before .before .before .before .pre
 
 same-length-3 : tie.Need-same-length-3
 same-length-3 c = search needs
 
 returns-3 : tie.Need-returns-3
 returns-3 c =
-    let start = c .before .before .before .before .before .before .before .before .before .before .before .before .before .before .before .before .before .before .before .before .before .before .before .before .before .args in
-    let r = c .before .before .before .before .before .before .before .before .before .before .before .before .before .before .before .before .before .before .read-palette in
+    let past = c .before .before .before .before .before .before .before .before .before in
+    let read = past .before .before .before .before .before .before .before .before .before in
+    let start = read .before .before .before .before .before .before .before .args in
+    let r = read .read-palette in
     let b = r .ensures .1 in
     let lines = c .before .before .before .before .before .before .before .lines-in in
     let cells = c .before .before .before .before .before .before .before .before .cells-in in
-    let end = ap (λ (x : Places). x .end) (c .before .before .before .before .before .before .before .before .before .before .before .places-of .ensures .0) in
-    let e = read-shown (now (start .s)) (r .result) (r .ensures .0 .0) (r .ensures .0 .1) (c .before .before .before .before .before .before .before .before .before .before .before .before .if1 .left) (sym end ∙ ended (c .before .before .before .before .before .before .before .before .before))
+    let end = ap (λ (x : Places). x .end) (past .before .before .places-of .ensures .0) in
+    let first = past .before .before .before .if1 .left in
+    let e = read-shown (now (start .s)) (r .result) (r .ensures .0 .0) (r .ensures .0 .1) first (sym end ∙ ended past)
     _ _ _ _ _ _ _ _ (lines .result) (cells .result) (omega arith, omega arith, omega arith, omega arith)
     (b .0) (b .1 .0) (b .1 .1 .0) (b .1 .1 .1) (lines .ensures .0) (cells .ensures .0) in
     let p = c .before .before .print-palette .ensures in
