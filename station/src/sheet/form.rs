@@ -119,9 +119,8 @@ impl Form {
                 Part::OneLevel(level) => writeln!(output, "{:8}{:8}{level:8}", 0, 9)?,
                 Part::Samples(refusal, samples) => {
                     writeln!(output, "{:8}{:8}", 0, refusal.number())?;
-                    for row in samples.chunks(area.width) {
-                        write_samples(row, digits(self.bd), output)?;
-                    }
+                    let mut rows = samples.chunks(area.width);
+                    rows.try_for_each(|row| write_row(row, digits(self.bd), output))?;
                 }
             }
         }
@@ -177,7 +176,7 @@ fn put(field: &mut [u8], number: u32) {
     }
 }
 
-fn write_samples(row: &[u16], digits: usize, output: &mut impl Write) -> io::Result<()> {
+fn write_row(row: &[u16], digits: usize, output: &mut impl Write) -> io::Result<()> {
     let mut line = Vec::with_capacity(row.len() * digits + 1);
     for sample in row {
         let places = (0..digits).rev();

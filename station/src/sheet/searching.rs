@@ -139,25 +139,37 @@ fn in_threads(
     })
 }
 
-/// The rows from the top, whatever the order in which the threads end them.
 fn in_order(
     receiver: &Receiver<Ended>,
     rows: usize,
     mut progress: impl FnMut(usize, usize),
 ) -> Result<Row, Refusal> {
-    let mut all = Row::default();
-    let mut early = BTreeMap::new();
-    let mut due = 0;
+    let mut joined = Joined::default();
     for (done, (place, row)) in receiver.iter().enumerate() {
-        early.insert(place, row?);
-        while let Some(row) = early.remove(&due) {
-            all.parts.append(row.parts);
-            all.raw_width += row.raw_width;
-            due += 1;
-        }
+        joined.take(place, row?);
         progress(done + 1, rows);
     }
-    Ok(all)
+    Ok(joined.rows)
+}
+
+/// The rows from the top, whatever the order in which the threads end them.
+#[derive(Default)]
+struct Joined {
+    rows: Row,
+    /// How many they are, and so the place of the next one.
+    due: usize,
+    early: BTreeMap<usize, Row>,
+}
+
+impl Joined {
+    fn take(&mut self, place: usize, row: Row) {
+        self.early.insert(place, row);
+        while let Some(row) = self.early.remove(&self.due) {
+            self.rows.parts.append(row.parts);
+            self.rows.raw_width += row.raw_width;
+            self.due += 1;
+        }
+    }
 }
 
 fn search_rows(sheet: &Sheet, settings: &Settings, next: &AtomicUsize, sender: Sender<Ended>) {
