@@ -71,6 +71,10 @@ module _ (taken w h bd : ℕ) (cache : List ℕ) (p : Palette) where
   unfolding listedBlock
   listed-taken = either-way (λ (b : Block). b .taken ≡ taken) (eqb number 0) _ _ refl refl
 
+  pub listed-calls : number ≡ 0 → listedBlock taken w h bd cache p .calls ≡ length words
+  unfolding listedBlock
+  listed-calls z = rw (eq-eqb _ _ z) refl
+
   -- ---- numbers cut to their room
 
   cut-by : (t : Bool) → eqb number 0 ≡ t → listedBlock taken w h bd cache (cutPalette p) ≡ listedBlock taken w h bd cache p

@@ -6,7 +6,7 @@ use mathlib.Core.List.{List}
 use native.Mathlib.Omega.{arith}
 use lib.Dec.{eqb}
 use lib.ListN.{length, take}
-use borrow.Author.Tests.{eqb-true, eq-eqb, ne-eqb, le-leb}
+use borrow.Author.Tests.{eqb-true, eqb-false, eq-eqb, ne-eqb, le-leb}
 use Rattle.lists.specs.Written.{written, front}
 use Rattle.lists.proofs.Written.{written-take}
 use Rattle.lists.proofs.Choice.{and-l, and-r}
@@ -23,7 +23,7 @@ use Rattle.text.proofs.CutPalette.{cutPalette, accepted-cut}
 use Rattle.text.proofs.Answered.{number-read}
 use Rattle.blocks.specs.declared.Block.{Block}
 use Rattle.blocks.specs.Block.{refusedBlock, listedBlock, blockOf, wordsOf}
-use Rattle.blocks.proofs.Listed.{listed-number, listed-cut}
+use Rattle.blocks.proofs.Listed.{listed-number, listed-calls, listed-cut}
 
 -- the front of a slice into which a list was written
 taken : (l vs : List ℕ) (n : ℕ) → length vs ≡ n → n ≤ length l → take n (written l 0 vs) ≡ vs
@@ -60,7 +60,7 @@ module _ (s : List ℕ) (h : Header) (e : h ≡ readHeader s 0) where
         line-kept 65535 s (q .cache) (h .cached)
         (and-r k c (and-l (k && c) f (and-l (k && c && f) (areRows most s (q .rows) (h .width) (h .height)) b)))
 
-    block-listed : listedBlock (placesOf h 0 .end) (h .width) (h .height) (h .bd) cache p ≡ blockOf s
+    pub block-listed : listedBlock (placesOf h 0 .end) (h .width) (h .height) (h .bd) cache p ≡ blockOf s
     unfolding blockOf
     block-listed = rw (← e) (sym (simp (eq-eqb _ _ z)))
 
@@ -131,3 +131,24 @@ module _ (s : List ℕ) (h : Header) (e : h ≡ readHeader s 0) where
           (listed-cut (placesOf h 0 .end) (h .width) (h .height) (h .bd) cache p ∙ block-listed) in
           let is : b ≡ blockOf s = eb ∙ listed in
           (is, ew ∙ rw (cache-read, palette-read) (words-by (b .number) (ap (λ (x : Block). x .number) is) before (eqb (b .number) 0) refl))
+
+-- ---- a block that is not refused counts its words
+
+module _ (s : List ℕ) where
+  abbrev h : Header
+  h = readHeader s 0
+
+  calls-by : (t : Bool) → eqb (h .number) 0 ≡ t → blockOf s .number ≡ 0 → blockOf s .calls ≡ length (wordsOf s)
+  unfolding wordsOf
+  calls-by true e z =
+      let listed = block-listed s h refl (eqb-true _ _ e) in
+      let accepted = sym (listed-number (placesOf h 0 .end) (h .width) (h .height) (h .bd) (cacheAt s 0 h) (paletteAt s 0 h))
+      ∙ ap (λ (b : Block). b .number) listed ∙ z in
+      ap (λ (b : Block). b .calls) (sym listed)
+      ∙ listed-calls (placesOf h 0 .end) (h .width) (h .height) (h .bd) (cacheAt s 0 h) (paletteAt s 0 h) accepted
+  calls-by false e z =
+      let n = eqb-false _ _ e in
+      absurd (n (ap (λ (b : Block). b .number) (block-refused s h refl n) ∙ z))
+
+  pub calls-told : blockOf s .number ≡ 0 → blockOf s .calls ≡ length (wordsOf s)
+  calls-told = calls-by (eqb (h .number) 0) refl

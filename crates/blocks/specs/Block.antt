@@ -1,6 +1,6 @@
 -- The block at the front of a text: a palette in the listing program's form, and what its list counts. Document 01's listing
 -- program answers for one block; document 02's L1 reports on many.
-use Prim.Native.Nat.{ℕ, _*_}
+use Prim.Native.Nat.{ℕ, _*_, _≤_}
 use mathlib.Core.Bool.{cond}
 use mathlib.Core.List.{List}
 use lib.Dec.{eqb}
@@ -35,3 +35,9 @@ blockOf s =
 -- its call list, where it is not refused
 unfoldable pub wordsOf : List ℕ → List ℕ
 wordsOf s = let h = readHeader s 0 in callList (h .width) (h .height) (h .bd) (cacheAt s 0 h) (paletteAt s 0 h)
+
+-- what a block counts at most
+pub record Few (b : Block) : Type 0 where
+  pub calls : b .calls ≤ 4234
+  pub cells : b .cells ≤ 4096
+  pub raw : b .raw ≤ 2618

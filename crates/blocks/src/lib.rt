@@ -10,7 +10,7 @@ ghost use Rattle.lists.specs.Written.{front};
 ghost use Rattle.accept.specs.Palette.{paletteOf};
 ghost use Rattle.listing.specs.Listing.{callList};
 ghost use Rattle.text.specs.Text.{Small};
-ghost use Rattle.blocks.specs.Block.{refusedBlock, listedBlock, blockOf, wordsOf};
+ghost use Rattle.blocks.specs.Block.{refusedBlock, listedBlock, blockOf, wordsOf, Few};
 
 // The number of a refusal or 0, how many bytes of the text are the block's own (0 where its end is not known), and what it counts.
 pub struct Block {
@@ -78,7 +78,7 @@ fn list_block(
 // Takes the block at the front of s, and writes its list from the front of `words` unless it is refused.
 pub fn take_block(s: &[u8], words: &mut [u32]) -> Block
     requires { ⌜ 4234 ≤ length (now words) ⌝ }
-    ensures { λ r. ⌜ r ≡ blockOf (now (s .entry)) ⌝ }
+    ensures { λ r. ⌜ (r ≡ blockOf (now (s .entry))) × Few r ⌝ }
     ensures { λ r. ⌜ now (words .exit) ≡ cond (eqb (r .number) 0)
         (front (wordsOf (now (s .entry))) (now (words .entry))) (now (words .entry)) ⌝ }
 {

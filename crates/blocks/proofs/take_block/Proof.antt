@@ -7,6 +7,7 @@ use denote.Ref.{now}
 use Rattle.text.specs.declared.Places.{Places}
 use Rattle.text.proofs.Sound.{untouched}
 use Rattle.blocks.specs.declared.Block.{Block}
+use Rattle.blocks.proofs.Few.{with-few}
 use Rattle.blocks.proofs.Read.{block-refused, block-read}
 use Rattle.blocks.proofs.take_block.Statement.{statement}
 use Rattle.blocks.proofs.take_block.Tie as tie
@@ -36,7 +37,7 @@ returns c =
     let h = read .read-palette in
     let e = c .refuse .ensures in
     let n = c .before .if1 .taken in (
-      e ∙ block-refused (now (start .s)) (h .result) (h .ensures .0 .0) n,
+      with-few (now (start .s)) _ (e ∙ block-refused (now (start .s)) (h .result) (h .ensures .0 .0) n),
       untouched (c .refuse .result .number) _ (now (start .words)) (λ z. n (sym (ap (λ (b : Block). b .number) e) ∙ z)),
     )
 
@@ -86,14 +87,15 @@ returns-2 c =
     let read = past .before .before .before .before .before .before in
     let start = read .before .before .before .before .before .before .before .args in
     let h = read .read-palette in
-    let b = h .ensures .1 in
+    let put = h .ensures .1 in
     let lines = asked .lines-in in
     let cells = asked .before .cells-in in
     let end = ap (λ (x : Places). x .end) (asked .before .before .places-of .ensures .0) in
     let l = c .before .before .list-block .ensures in
-    block-read (now (start .s)) (h .result) (h .ensures .0 .0) (past .if1 .left) (h .ensures .0 .1) _ _ _ _ _ _ _ _ (lines .result) (cells .result)
-    (omega arith, omega arith, omega arith, omega arith) (b .0) (b .1 .0) (b .1 .1 .0) (b .1 .1 .1) (lines .ensures .0) (cells .ensures .0)
-    _ end _ (l .0) (now (start .words)) _ (l .1)
+    let b = block-read (now (start .s)) (h .result) (h .ensures .0 .0) (past .if1 .left) (h .ensures .0 .1) _ _ _ _ _ _ _ _ (lines .result) (cells .result)
+    (omega arith, omega arith, omega arith, omega arith) (put .0) (put .1 .0) (put .1 .1 .0) (put .1 .1 .1) (lines .ensures .0) (cells .ensures .0)
+    _ end _ (l .0) (now (start .words)) _ (l .1) in
+    (with-few (now (start .s)) _ (b .0), b .1)
 
 pub take-block-spec : {M : Type 1} → statement M
 take-block-spec =
