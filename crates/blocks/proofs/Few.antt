@@ -94,7 +94,7 @@ raw-few w h bd cache p a =
       leb-true (length cache) 64 (a .cacheLength),
     )
 
-refused-few : (number taken : ℕ) → Few (refusedBlock number taken)
+pub refused-few : (number taken : ℕ) → Few (refusedBlock number taken)
 refused-few number taken = record { calls = omega arith; cells = omega arith; raw = omega arith }
 
 listed-few : (taken w h bd : ℕ) (cache : List ℕ) (p : Palette) → h * w ≤ 4096 → Few (listedBlock taken w h bd cache p)

@@ -1,0 +1,3 @@
+pub mod Lowest
+pub mod Lines
+pub mod Stream

@@ -1,0 +1,4 @@
+pub mod Fraction
+pub mod Report
+pub mod Steps
+pub mod Stream
