@@ -1,4 +1,5 @@
 pub mod Fraction
 pub mod Report
+pub mod Reports
 pub mod Steps
 pub mod Stream
