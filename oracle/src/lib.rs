@@ -16,6 +16,7 @@ mod original;
 mod places;
 pub mod replay;
 pub mod replay_blocks;
+pub mod report_text;
 pub mod text;
 pub mod worked;
 

@@ -3,6 +3,7 @@
 
 use crate::check::{list_number, palette_number};
 use crate::original::{list, unpack, Palette};
+use std::fmt::Display;
 
 const COLUMNS: usize = 8;
 
@@ -28,7 +29,7 @@ fn listed(words: &[u32]) -> Vec<u8> {
 }
 
 /// Lines of numbers as text.
-pub fn text_of(lines: &[Vec<u32>]) -> Vec<u8> {
+pub fn text_of<T: Display>(lines: &[Vec<T>]) -> Vec<u8> {
     let mut text = String::new();
     for line in lines {
         line.iter()
@@ -53,13 +54,23 @@ pub fn lines_of(palette: &Palette, cache: &[u16]) -> Vec<Vec<u32>> {
     lines
 }
 
-/// The palette and cache of a text, or the number of its fault.
+/// The palette and cache of a text, or the number of its fault; text after the last row is one.
 fn read(text: &[u8]) -> Result<(Palette, Vec<u16>), u32> {
     let mut rest = text;
-    let header = line(&mut rest, 6)?;
+    let read = take(&mut rest)?;
+    if rest.is_empty() {
+        Ok(read)
+    } else {
+        Err(17)
+    }
+}
+
+/// Takes the first palette with its cache off the text, or gives the number of its fault.
+pub fn take(rest: &mut &[u8]) -> Result<(Palette, Vec<u16>), u32> {
+    let header = line(rest, 6)?;
     let (mut palette, n, cached) = read_header(&header)?;
-    palette.colors = up_to(&line(&mut rest, n)?);
-    let cache = line(&mut rest, cached)?;
+    palette.colors = up_to(&line(rest, n)?);
+    let cache = line(rest, cached)?;
     if cache.iter().any(|&entry| entry > 65_535) {
         return Err(17);
     }
@@ -68,14 +79,9 @@ fn read(text: &[u8]) -> Result<(Palette, Vec<u16>), u32> {
     } else {
         palette.h
     };
-    palette.flags = up_to(&line(&mut rest, lines)?);
+    palette.flags = up_to(&line(rest, lines)?);
     for _ in 0..palette.h {
-        palette
-            .map
-            .extend(up_to::<u8>(&line(&mut rest, palette.w)?));
-    }
-    if !rest.is_empty() {
-        return Err(17);
+        palette.map.extend(up_to::<u8>(&line(rest, palette.w)?));
     }
     Ok((palette, up_to(&cache)))
 }
