@@ -17,6 +17,7 @@ mod places;
 pub mod replay;
 pub mod replay_blocks;
 pub mod report_text;
+pub mod reported;
 pub mod text;
 pub mod worked;
 

@@ -3,6 +3,8 @@
 use palette_oracle::generate::{blocks, caches, contexts, palettes};
 use palette_oracle::replay::{self, replayed};
 use palette_oracle::replay_blocks::{self, replayed_blocks};
+use palette_oracle::report_text::report;
+use palette_oracle::reported::reported;
 use palette_oracle::text::{answer, parse, Case};
 use palette_oracle::worked;
 use std::io::{self, BufRead, BufWriter, Write};
@@ -11,7 +13,8 @@ use std::process::ExitCode;
 const USAGE: &str =
     "usage: oracle answer | blocks SEED COUNT | lists SEED COUNT | contexts SEED COUNT | worked\n\
      | replay-input SEED COUNT | replay-output SEED COUNT\n\
-     | replay-blocks-input SEED COUNT | replay-blocks-output SEED COUNT";
+     | replay-blocks-input SEED COUNT | replay-blocks-output SEED COUNT\n\
+     | report-input SEED COUNT | report-output SEED COUNT";
 
 fn main() -> ExitCode {
     let arguments: Vec<String> = std::env::args().skip(1).collect();
@@ -30,6 +33,8 @@ fn main() -> ExitCode {
         ["replay-blocks-output", seed, count] => {
             write_each(seed, count, replayed_blocks, output(replay_blocks::line))
         }
+        ["report-input", seed, count] => write_report(seed, count, |text| text),
+        ["report-output", seed, count] => write_report(seed, count, |text| report(&text)),
         _ => Err(USAGE.to_string()),
     };
     match result {
@@ -106,6 +111,13 @@ fn write_each<T, Cases: Iterator<Item = T>>(
         out.write_all(&bytes).map_err(|e| e.to_string())?;
     }
     out.flush().map_err(|e| e.to_string())
+}
+
+/// Writes the text of the crate `report` in one of its two forms.
+fn write_report(seed: &str, count: &str, form: fn(Vec<u8>) -> Vec<u8>) -> Result<(), String> {
+    let text = reported(whole("seed", seed)?, whole("count", count)?);
+    let mut out = io::stdout().lock();
+    out.write_all(&form(text)).map_err(|e| e.to_string())
 }
 
 fn block_case(seed: u64, index: u64) -> Named {

@@ -27,7 +27,7 @@ pub fn cache(seed: u64, index: u64, palette: &Palette) -> (Vec<u16>, CacheKind) 
     (cache_of(random, kind, palette), kind)
 }
 
-fn cache_of(random: &mut Random, kind: CacheKind, palette: &Palette) -> Vec<u16> {
+pub fn cache_of(random: &mut Random, kind: CacheKind, palette: &Palette) -> Vec<u16> {
     let top = top(palette.bd) as usize;
     let length = random.between(1, LONGEST);
     let mut colors = palette.colors.clone();

@@ -29,6 +29,7 @@ pub mod layouts;
 pub mod levels;
 pub mod palettes;
 pub mod random;
+pub mod reports;
 pub mod requests;
 pub mod searches;
 pub mod sides;

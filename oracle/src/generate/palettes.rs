@@ -28,8 +28,27 @@ kinds! {
     }
 }
 
-/// How a palette was made; `None` for one that the search found.
-pub type PaletteKinds = Option<(Spacing, FlagKind, CellKind)>;
+/// How a palette was made.
+pub type Made = (Spacing, FlagKind, CellKind);
+
+/// `None` for a palette that the search found.
+pub type PaletteKinds = Option<Made>;
+
+/// What is drawn before the colours.
+#[derive(Clone, Copy, Debug)]
+pub struct Shape {
+    pub w: usize,
+    pub h: usize,
+    pub bd: u32,
+    pub n: usize,
+}
+
+/// Any depth and number of colours.
+pub fn shape(random: &mut Random, (w, h): (usize, usize)) -> Shape {
+    let bd = depth(random);
+    let n = random.between(2, 8);
+    Shape { w, h, bd, n }
+}
 
 pub fn names(kinds: PaletteKinds) -> String {
     kinds.map_or("found".to_string(), |(spacing, flags, cells)| {
@@ -50,12 +69,18 @@ pub fn palette(seed: u64, index: u64) -> (Palette, PaletteKinds) {
             return (palette, None);
         }
     }
-    let kinds = (
+    let kinds = draw_kinds(random);
+    let sides = sides(random);
+    let shape = shape(random, sides);
+    (made(random, shape, kinds), Some(kinds))
+}
+
+pub fn draw_kinds(random: &mut Random) -> Made {
+    (
         random.pick(Spacing::ALL),
         random.pick(FlagKind::ALL),
         random.pick(CellKind::ALL),
-    );
-    (made(random, kinds), Some(kinds))
+    )
 }
 
 fn found(seed: u64, index: u64) -> Option<Palette> {
@@ -63,10 +88,8 @@ fn found(seed: u64, index: u64) -> Option<Palette> {
     search(&b.samples, b.w, b.h, b.bd, b.lambda, &b.costs).map(|found| found.palette)
 }
 
-fn made(random: &mut Random, (spacing, flags, cells): (Spacing, FlagKind, CellKind)) -> Palette {
-    let (w, h) = sides(random);
-    let bd = depth(random);
-    let n = random.between(2, 8);
+pub fn made(random: &mut Random, shape: Shape, (spacing, flags, cells): Made) -> Palette {
+    let Shape { w, h, bd, n } = shape;
     let colors = levels(random, spacing, n, top(bd))
         .iter()
         .map(|&color| color as u16)

@@ -16,6 +16,8 @@ pub enum Beside {
     Text = 62,
     /// Costs that a group of replayed blocks shares.
     Group = 61,
+    /// Texts of several palettes.
+    Report = 60,
 }
 
 impl Random {

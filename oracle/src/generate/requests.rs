@@ -66,7 +66,7 @@ pub fn request(seed: u64, index: u64) -> (Request, RequestKinds) {
     (request, kinds)
 }
 
-fn damage(random: &mut Random, kind: Damage, request: &mut Request) {
+pub fn damage(random: &mut Random, kind: Damage, request: &mut Request) {
     let palette = &mut request.palette;
     match kind {
         Damage::Side => damages::damage_side(random, &mut palette.w, &mut palette.h),

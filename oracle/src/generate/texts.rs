@@ -40,12 +40,16 @@ const BYTES: &[u8] = b" 0123456789\n\t\r-+.\0";
 pub fn text(seed: u64, index: u64) -> (Vec<u8>, TextKind) {
     let random = &mut Random::beside(seed, index, Beside::Text);
     let kind = random.pick(TextKind::ALL);
-    let text = match kind {
+    (text_from(random, kind, sound_lines(seed, index)), kind)
+}
+
+/// A text of a kind, made from sound lines.
+pub fn text_from(random: &mut Random, kind: TextKind, lines: Vec<Vec<u32>>) -> Vec<u8> {
+    match kind {
         TextKind::Empty => random.pick::<&[u8]>(&[b"", b"", b"\n", b" "]).to_vec(),
         TextKind::RandomBytes => random_bytes(random),
-        _ => damaged(random, kind, sound_lines(seed, index)),
-    };
-    (text, kind)
+        _ => damaged(random, kind, lines),
+    }
 }
 
 fn sound_lines(seed: u64, index: u64) -> Vec<Vec<u32>> {
@@ -115,7 +119,7 @@ fn damage_bytes(random: &mut Random, kind: TextKind, text: &mut Vec<u8>) {
     }
 }
 
-fn any_byte(random: &mut Random) -> u8 {
+pub fn any_byte(random: &mut Random) -> u8 {
     if random.one_in(2) {
         random.pick(BYTES)
     } else {
