@@ -5,6 +5,9 @@ mod contexts;
 mod drive;
 mod environments;
 mod lists;
+mod long_reports;
+mod program;
+mod reports;
 mod searches;
 mod tally;
 mod texts;
@@ -13,7 +16,9 @@ use drive::Run;
 use std::process::ExitCode;
 use std::time::Instant;
 
-const USAGE: &str = "usage: compare search|lists|contexts|texts|environments SEED COUNT [THREADS]";
+const USAGE: &str =
+    "usage: compare search|lists|contexts|texts|reports|environments SEED COUNT [THREADS]\n\
+     | long-reports SEED";
 
 /// A thread for each core of a small machine.
 const THREADS: u64 = 2;
@@ -36,6 +41,7 @@ fn run() -> Result<bool, String> {
     let arguments: Vec<String> = std::env::args().skip(1).collect();
     let arguments: Vec<&str> = arguments.iter().map(String::as_str).collect();
     let (command, seed, count, threads) = match arguments[..] {
+        ["long-reports", seed] => return long_reports::compare(whole("seed", seed)?),
         [command, seed, count] => (command, seed, count, THREADS),
         [command, seed, count, threads] => (command, seed, count, whole("threads", threads)?),
         _ => return Err(USAGE.to_string()),
@@ -51,6 +57,7 @@ fn run() -> Result<bool, String> {
         "lists" => lists::compare(run),
         "contexts" => contexts::compare(run),
         "texts" => texts::compare(run),
+        "reports" => reports::compare(run),
         "environments" => environments::compare(run),
         _ => Err(USAGE.to_string()),
     }

@@ -18,6 +18,8 @@ pub enum Beside {
     Group = 61,
     /// Texts of several palettes.
     Report = 60,
+    /// Pieces that a text is handed over in.
+    Pieces = 59,
 }
 
 impl Random {
