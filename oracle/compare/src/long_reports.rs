@@ -12,8 +12,9 @@ use std::time::Instant;
 /// What may follow the last palette.
 const BYTES: &[u8] = b"\n x\0\xff";
 
-/// So many different palettes of the greatest length take turns.
-const DIFFERENT: usize = 8;
+/// So many different palettes of the greatest length take turns, each equally often: the fraction
+/// has a large divisor to lose.
+const DIFFERENT: usize = 9;
 
 /// The memory is looked at each time that so many palettes are written.
 const LOOKS: u64 = 100;

@@ -11,8 +11,8 @@ use crate::listing_text::{lines_of, text_of};
 
 kinds! {
     ReportKind {
-        Sound = "sound",
         Empty = "empty",
+        Sound = "sound",
         HeaderRefused = "header-refused",
         /// One palette becomes a damaged text of the listing program.
         PaletteDamaged = "palette-damaged",
@@ -53,15 +53,14 @@ const REFUSED: &[Damage] = &[
 
 const GREATEST_SIDE: usize = 64;
 
-/// Where a reader's buffer may end: powers of two, and the greatest text of a palette with the
-/// byte behind it.
+/// Where a reader's buffer may end: powers of two, and the greatest length of a palette's text.
 const PLACES: &[usize] = &[
-    512, 1024, 4096, 8192, 16_384, 32_768, 33_972, 33_973, 65_536, 131_072,
+    512, 1024, 4096, 8192, 16_384, 32_768, 33_972, 65_536, 131_072,
 ];
 
 pub fn report_text(seed: u64, index: u64) -> (Vec<u8>, ReportKinds) {
     let random = &mut Random::beside(seed, index, Beside::Report);
-    let report = random.pick(ReportKind::ALL);
+    let report = draw_kind(random);
     let damage = random.pick(&TextKind::ALL[1..]);
     let damaged = matches!(report, ReportKind::PaletteDamaged | ReportKind::TextDamaged);
     let kinds = ReportKinds {
@@ -73,6 +72,15 @@ pub fn report_text(seed: u64, index: u64) -> (Vec<u8>, ReportKinds) {
         _ => draw_blocks(random),
     };
     (put_together(random, report, damage, blocks), kinds)
+}
+
+/// There is only one empty text.
+fn draw_kind(random: &mut Random) -> ReportKind {
+    if random.one_in(50) {
+        ReportKind::Empty
+    } else {
+        random.pick(&ReportKind::ALL[1..])
+    }
 }
 
 /// From 1 to 40 palettes; mostly small, so that many texts can be tried.
@@ -87,12 +95,7 @@ fn draw_blocks(random: &mut Random) -> Vec<Lines> {
 }
 
 fn block(random: &mut Random, shares: Shares) -> Lines {
-    let damages = match happens(random, shares.refused) {
-        true => (0..random.pick(&[1, 1, 1, 2]))
-            .map(|_| random.pick(REFUSED))
-            .collect(),
-        false => vec![],
-    };
+    let damages = draw_damages(random, shares.refused);
     if !happens(random, shares.large) {
         small(random, &damages)
     } else if random.one_in(2) {
@@ -101,6 +104,15 @@ fn block(random: &mut Random, shares: Shares) -> Lines {
         let sides = sides(random);
         any(random, sides, &damages)
     }
+}
+
+/// A second damage shows which of 11 and 15 comes first.
+fn draw_damages(random: &mut Random, refused: usize) -> Vec<Damage> {
+    if !happens(random, refused) {
+        return vec![];
+    }
+    let count = random.pick(&[1, 1, 1, 2]);
+    (0..count).map(|_| random.pick(REFUSED)).collect()
 }
 
 fn happens(random: &mut Random, times: usize) -> bool {
@@ -206,18 +218,20 @@ fn bytes_after(random: &mut Random) -> Vec<u8> {
         .collect()
 }
 
-/// Anywhere, or close to a place where a reader's buffer may end.
+/// Anywhere, or within a byte of a place where a reader's buffer may end.
 fn cut_off(random: &mut Random, mut text: Vec<u8>) -> Vec<u8> {
-    let inner: Vec<usize> = PLACES.iter().copied().filter(|p| *p < text.len()).collect();
-    let at = match inner.is_empty() || random.one_in(2) {
-        true => random.below(text.len()),
-        false => random.pick(&inner) + random.below(3) - 1,
+    let mut places = PLACES.to_vec();
+    places.retain(|&place| place < text.len());
+    let at = if places.is_empty() || random.one_in(2) {
+        random.below(text.len())
+    } else {
+        random.pick(&places) - 1 + random.below(3)
     };
     text.truncate(at);
     text
 }
 
-/// A small palette's text, accepted or, one time in four, refused by 11 or 15 alone.
+/// A small palette's text in form; one in four is damaged, and then mostly refused by 11 or 15.
 pub fn small_text(seed: u64, index: u64) -> Vec<u8> {
     let random = &mut Random::beside(seed, index, Beside::Report);
     let shares = Shares {
