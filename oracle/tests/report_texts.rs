@@ -93,19 +93,20 @@ fn every_number_of_palettes_is_met() {
 /// Cut at the place the text could not be read.
 #[test]
 fn palettes_lie_across_the_places_where_a_buffer_may_end() {
+    let cases = cases();
     let clean = |case: &Case| case.reading.ended_by.is_none();
     for place in [4096, GREATEST, GREATEST + 1, 65_536] {
         let across = |case: &&Case| {
             clean(case) && case.text.len() > place && read(&case.text[..place]).ended_by == Some(17)
         };
-        let met = cases().iter().filter(across).count();
+        let met = cases.iter().filter(across).count();
         assert!(met >= 20, "{place}: {met}");
     }
     let touch = |case: &Case| {
         let first = case.text.len() > GREATEST && read(&case.text[..GREATEST]).blocks.len() == 1;
         first && read(&case.text[..GREATEST]).ended_by.is_none()
     };
-    assert!(cases().iter().any(touch));
+    assert!(cases.iter().any(touch));
 }
 
 #[test]
