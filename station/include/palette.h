@@ -46,7 +46,10 @@ extern "C" {
 #define PALETTE_MAX_WORDS 4234
 #define PALETTE_COSTS 301
 
-/* Document 01's numbers. 17 is given by the listing program only. */
+/*
+ * Document 01's numbers, and document 02's 19. 17 is given only by programs that read a text, 19
+ * only by a block report.
+ */
 #define PALETTE_ACCEPTED 0
 #define PALETTE_SIDE 1          /* a side outside 1..64 */
 #define PALETTE_DEPTH 2         /* bd outside 8..12 */
@@ -66,6 +69,7 @@ extern "C" {
 #define PALETTE_WORD_ROOM 16    /* word room too small for the list */
 #define PALETTE_TEXT 17         /* listing program: text not in its form */
 #define PALETTE_NO_CONTEXT 18   /* no context at that cell */
+#define PALETTE_BLOCK_COUNT 19  /* more than 9,999 palettes in a block report */
 
 /*
  * Whether a block of these sides, in units of four samples, may have a palette: each at most 16,

@@ -22,7 +22,8 @@
 //!
 //! Equal input gives equal lists on every station; different palettes of one width, height, depth
 //! and cache never share a list. No input makes these functions fail other than by a refusal, and
-//! a refusal leaves every lent buffer as it was. A whole [`sheet`] is known by more than its lists.
+//! a refusal leaves every lent buffer as it was. A whole [`sheet`] is known by more than its lists;
+//! a [`report`] tells what the lists of many blocks come to.
 //!
 //! The answers do not depend on the caller's floating environment: each call runs in the default
 //! one and puts the caller's back. So a program that flushes subnormal numbers to 0 (C's
@@ -48,6 +49,7 @@ mod listing;
 mod palette;
 mod pred;
 mod refusal;
+pub mod report;
 mod search;
 pub mod sheet;
 pub mod tables;

@@ -40,6 +40,21 @@ pub struct ListingView<'w> {
 }
 
 impl Listing {
+    /// The same listing, lent.
+    ///
+    /// ```
+    /// let palette = palette_station::Palette::example();
+    /// let listing = palette_station::list(&palette, &[])?;
+    /// assert_eq!(listing.view().words, listing.words);
+    /// # Ok::<(), palette_station::Refusal>(())
+    /// ```
+    pub fn view(&self) -> ListingView<'_> {
+        ListingView {
+            words: &self.words,
+            raw_width: self.raw_width,
+        }
+    }
+
     /// The calls, decoded.
     ///
     /// ```

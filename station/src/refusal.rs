@@ -3,7 +3,8 @@
 use std::error::Error;
 use std::fmt::{self, Display, Formatter};
 
-/// Document 01's number for what was asked, with its meaning. A refused call has written nothing.
+/// Document 01's number for what was asked, with its meaning; 19 is document 02's. A refused call
+/// has written nothing.
 ///
 /// The constants can stand in patterns:
 ///
@@ -23,7 +24,7 @@ pub struct Refusal {
 
 macro_rules! refusals {
     ($($name:ident = $number:literal: $meaning:literal)+) => {
-        /// Document 01's numbers in their order.
+        /// The numbers in their order.
         impl Refusal {
             $(
                 #[doc = concat!("Number ", $number, ": ", $meaning, ".")]
@@ -34,7 +35,7 @@ macro_rules! refusals {
                 pub const $name: Refusal = Refusal { number: $number };
             )+
 
-            /// What the number stands for, in document 01's words.
+            /// What the number stands for, in the documents' words.
             ///
             /// ```
             /// use palette_station::Refusal;
@@ -44,7 +45,7 @@ macro_rules! refusals {
             pub const fn meaning(self) -> &'static str {
                 match self.number {
                     $($number => $meaning,)+
-                    _ => "a number that document 01 does not have",
+                    _ => "a number that this package does not know",
                 }
             }
         }
@@ -70,10 +71,11 @@ refusals! {
     WORD_ROOM = 16: "word room too small for the list"
     TEXT = 17: "listing program: text not in its form"
     CONTEXT = 18: "no context there: cell (0,0), x not below the stride, n not 2..8, or a used neighbour past the map's end or not below n"
+    BLOCK_COUNT = 19: "more than 9,999 palettes in a block report"
 }
 
 impl Refusal {
-    /// The number, 1 to 18.
+    /// The number, 1 to 19.
     ///
     /// ```
     /// use palette_station::Refusal;
@@ -84,18 +86,18 @@ impl Refusal {
         self.number
     }
 
-    /// The refusal of a number, if document 01 has it.
+    /// The refusal of a number, if it is one of these.
     ///
     /// ```
     /// use palette_station::Refusal;
     ///
     /// assert_eq!(Refusal::from_number(9), Some(Refusal::ONE_LEVEL));
     /// assert_eq!(Refusal::from_number(0), None);
-    /// assert_eq!(Refusal::from_number(19), None);
+    /// assert_eq!(Refusal::from_number(20), None);
     /// ```
     pub const fn from_number(number: u32) -> Option<Refusal> {
         match number {
-            1..=18 => Some(Refusal { number }),
+            1..=19 => Some(Refusal { number }),
             _ => None,
         }
     }
@@ -113,8 +115,8 @@ impl Refusal {
         matches!(self.number, 8..=10)
     }
 
-    /// The archive's answer: 0 is none. A number past document 01's is kept as it came, so that
-    /// a newer archive shows in a message and not in a crash.
+    /// The archive's answer: 0 is none. A number past these is kept as it came, so that a
+    /// newer archive shows in a message and not in a crash.
     pub(crate) const fn check(number: u32) -> Result<(), Refusal> {
         match number {
             0 => Ok(()),

@@ -236,6 +236,7 @@ fn numbers_are_those_of_the_package() {
         ("PALETTE_WORD_ROOM", station::Refusal::WORD_ROOM),
         ("PALETTE_TEXT", station::Refusal::TEXT),
         ("PALETTE_NO_CONTEXT", station::Refusal::CONTEXT),
+        ("PALETTE_BLOCK_COUNT", station::Refusal::BLOCK_COUNT),
     ];
     for (name, refusal) in numbers {
         assert_eq!(defined(name), Some(refusal.number() as usize), "{name}");

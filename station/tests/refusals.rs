@@ -1,8 +1,9 @@
-//! Each of document 01's numbers is reached, and says what it means.
+//! Each of the documents' numbers is reached, and says what it means.
 
 mod common;
 
 use common::{block, counting, halves};
+use palette_station::report::Report;
 use palette_station::{
     context, list, list_into, pred_into, search, search_into, Block, Colors, Costs, Palette,
     Refusal,
@@ -88,10 +89,21 @@ fn text_17() {
     assert_eq!(fields, [0, Refusal::TEXT.number()]);
 }
 
+/// Only a report gives 19.
+#[test]
+fn block_count_19() {
+    let mut report = Report::new();
+    (0..9999).for_each(|_| report.push(Err(Refusal::SMALL)));
+    assert_eq!(report.lines().last(), Some(Err(Refusal::SMALL)));
+    report.push(Err(Refusal::SMALL));
+    let last = report.lines().last().map(|line| line.unwrap_err().number());
+    assert_eq!(last, Some(19));
+}
+
 #[test]
 fn every_number_has_a_meaning_of_its_own() {
-    let refusals: Vec<Refusal> = (1..=18).filter_map(Refusal::from_number).collect();
-    assert_eq!(refusals.len(), 18);
+    let refusals: Vec<Refusal> = (1..=19).filter_map(Refusal::from_number).collect();
+    assert_eq!(refusals.len(), 19);
     for (place, refusal) in refusals.iter().enumerate() {
         assert_eq!(refusal.number() as usize, place + 1);
         let shown = format!("refused by {}: {}", place + 1, refusal.meaning());
@@ -106,5 +118,5 @@ fn every_number_has_a_meaning_of_its_own() {
         );
     }
     assert_eq!(Refusal::from_number(0), None);
-    assert_eq!(Refusal::from_number(19), None);
+    assert_eq!(Refusal::from_number(20), None);
 }

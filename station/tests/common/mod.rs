@@ -2,12 +2,14 @@
 #![allow(dead_code)]
 
 pub mod decode;
+pub mod page;
 
 use palette_station::{Block, Colors, Palette};
 use std::env;
 use std::io::Write;
 use std::path::{Path, PathBuf};
 use std::process::{Command, Stdio};
+use std::thread;
 
 /// Fills buffers before a call, so that a write shows.
 pub const BYTE: u8 = 0xee;
@@ -56,10 +58,19 @@ pub fn cases(count: usize) -> usize {
 /// What the listing program prints for a text. LIST_PROGRAM names the program, else it is looked
 /// for beside this package; none where it is not built.
 pub fn listing_program(text: &[u8]) -> Option<Vec<u8>> {
-    let beside = Path::new(env!("CARGO_MANIFEST_DIR")).join("../target/bin/list");
-    let program = env::var_os("LIST_PROGRAM").map_or(beside, PathBuf::from);
+    program("LIST_PROGRAM", "list", text)
+}
+
+/// The same for the report program and REPORT_PROGRAM.
+pub fn report_program(text: &[u8]) -> Option<Vec<u8>> {
+    program("REPORT_PROGRAM", "report", text)
+}
+
+fn program(variable: &str, name: &str, text: &[u8]) -> Option<Vec<u8>> {
+    let folder = Path::new(env!("CARGO_MANIFEST_DIR")).join("../target/bin");
+    let program = env::var_os(variable).map_or(folder.join(name), PathBuf::from);
     if !program.exists() {
-        eprintln!("skipped: no listing program (set LIST_PROGRAM, or run `rt check list`)");
+        eprintln!("skipped: no program {name} (set {variable}, or run `rt check {name}`)");
         return None;
     }
     let mut child = Command::new(program)
@@ -68,9 +79,31 @@ pub fn listing_program(text: &[u8]) -> Option<Vec<u8>> {
         .spawn()
         .expect("it runs");
     let mut input = child.stdin.take().expect("a pipe");
-    input.write_all(text).expect("it reads");
-    drop(input);
-    Some(child.wait_with_output().expect("it ends").stdout)
+    // It may print before it has read all, and end before it too.
+    let output = thread::scope(|scope| {
+        scope.spawn(move || drop(input.write_all(text)));
+        child.wait_with_output().expect("it ends")
+    });
+    assert!(output.status.success(), "{name}: {}", output.status);
+    Some(output.stdout)
+}
+
+/// A palette as the programs read it, without a cache.
+pub fn program_text(palette: &Palette) -> String {
+    let line = |fields: &[u16]| -> String {
+        let fields: String = fields.iter().map(|field| format!("{field:8}")).collect();
+        fields + "\n"
+    };
+    let bytes = |bytes: &[u8]| line(&bytes.iter().map(|&b| u16::from(b)).collect::<Vec<u16>>());
+    let (width, height) = (palette.width, palette.height);
+    let [n, bd, turned] = [
+        palette.colors.len(),
+        palette.bd as usize,
+        palette.transposed.into(),
+    ];
+    let header = [width, height, n, bd, turned, 0].map(|field| field as u16);
+    let rows: String = palette.map.chunks(width).map(bytes).collect();
+    line(&header) + &line(&palette.colors) + "\n" + &bytes(&palette.flags) + &rows
 }
 
 /// Random numbers by splitmix64.

@@ -1,8 +1,8 @@
 //! The form beside another working from its description, and read back.
 
-use crate::common::{cases, listing_program, Random};
+use crate::common::{cases, listing_program, program_text, Random};
 use palette_station::sheet::{Form, Levels, Part, Settings, Sheet};
-use palette_station::{list, search, Block, Costs, Palette, Refusal};
+use palette_station::{list, search, Block, Costs, Refusal};
 use std::fmt::Write;
 
 /// Samples of one kind each: blank, few levels, many levels, or a mixture of all in strips.
@@ -152,24 +152,6 @@ fn the_form_is_what_its_description_says() {
         let searched = sheet.search(&settings, 1, |_, _| {}).unwrap();
         assert_eq!(searched.raw_width, raw_width, "sheet {place}");
     }
-}
-
-/// A palette as the listing program reads it, without a cache.
-fn program_text(palette: &Palette) -> String {
-    let line = |fields: &[u16]| -> String {
-        let fields: String = fields.iter().map(|field| format!("{field:8}")).collect();
-        fields + "\n"
-    };
-    let bytes = |bytes: &[u8]| line(&bytes.iter().map(|&b| u16::from(b)).collect::<Vec<u16>>());
-    let (width, height) = (palette.width, palette.height);
-    let [n, bd, turned] = [
-        palette.colors.len(),
-        palette.bd as usize,
-        palette.transposed.into(),
-    ];
-    let header = [width, height, n, bd, turned, 0].map(|field| field as u16);
-    let rows: String = palette.map.chunks(width).map(bytes).collect();
-    line(&header) + &line(&palette.colors) + "\n" + &bytes(&palette.flags) + &rows
 }
 
 /// A sheet of one block: what follows the costs is what the proved program prints.
