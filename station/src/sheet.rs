@@ -39,6 +39,8 @@
 //! (as rounded, where levels are set) in every other. Two scans may still differ inside a block
 //! with a palette, where the search gives both the same one.
 //!
+//! The block report of a sheet, [`Searched::report`], is no part of this: it has numbers only.
+//!
 //! # The form
 //!
 //! Lines of text, each ended by one line feed; numbers without leading zeros, those of blocks at

@@ -3,6 +3,7 @@
 use super::parts::Parts;
 use super::{area, Area, Form, Settings, Sheet};
 use crate::limits::{MAX_CELLS, MAX_LINES, MAX_SIDE, MAX_WORDS};
+use crate::report::{Listed, Report};
 use crate::{list_into, search_into, Block, Refusal};
 use std::collections::BTreeMap;
 use std::error::Error;
@@ -22,6 +23,7 @@ use std::thread;
 /// assert_eq!(searched.form.blocks().count(), 1);
 /// // Two colours of 8 bits in literals, and the first index.
 /// assert!(searched.raw_width > 16);
+/// assert_eq!(searched.report.blocks(), 1);
 /// # Ok::<(), Box<dyn std::error::Error>>(())
 /// ```
 #[derive(Clone, Debug)]
@@ -30,6 +32,8 @@ pub struct Searched {
     pub form: Form,
     /// The raw widths of all lists together.
     pub raw_width: u64,
+    /// The blocks with a list, in the form's order: a block without a palette has no line.
+    pub report: Report,
 }
 
 /// Why a sheet was not searched.
@@ -68,6 +72,15 @@ impl Error for Failure {}
 struct Row {
     parts: Parts,
     raw_width: u64,
+    report: Report,
+}
+
+impl Row {
+    fn append(&mut self, more: Row) {
+        self.parts.append(more.parts);
+        self.raw_width += more.raw_width;
+        self.report.append(more.report);
+    }
 }
 
 /// What a thread tells of a row that it has ended: its place from the top, and what it is.
@@ -107,8 +120,11 @@ impl Sheet {
             settings: settings.clone(),
             parts: all.parts,
         };
-        let raw_width = all.raw_width;
-        Ok(Searched { form, raw_width })
+        Ok(Searched {
+            form,
+            raw_width: all.raw_width,
+            report: all.report,
+        })
     }
 }
 
@@ -165,8 +181,7 @@ impl Joined {
     fn take(&mut self, place: usize, row: Row) {
         self.early.insert(place, row);
         while let Some(row) = self.early.remove(&self.due) {
-            self.rows.parts.append(row.parts);
-            self.rows.raw_width += row.raw_width;
+            self.rows.append(row);
             self.due += 1;
         }
     }
@@ -196,7 +211,10 @@ fn search_row(
     for area in area::row(sheet.width, sheet.height, settings.side, top) {
         let parts = &mut row.parts;
         match search_block(sheet, area, settings, room, parts) {
-            Ok(raw_width) => row.raw_width += u64::from(raw_width),
+            Ok(listed) => {
+                row.raw_width += u64::from(listed.raw_width());
+                row.report.push(Ok(listed));
+            }
             Err(Refusal::ONE_LEVEL) => parts.push_level(sheet.samples[top * sheet.width + area.x]),
             Err(refusal) if refusal.means_no_palette() => {
                 parts.push_samples(refusal, sheet.rows(area));
@@ -207,14 +225,14 @@ fn search_row(
     Ok(row)
 }
 
-/// Lists a block that has a palette, and gives the list's raw width.
+/// Lists a block that has a palette.
 fn search_block(
     sheet: &Sheet,
     area: Area,
     settings: &Settings,
     room: &mut Room,
     parts: &mut Parts,
-) -> Result<u32, Refusal> {
+) -> Result<Listed, Refusal> {
     room.samples.clear();
     for row in sheet.rows(area) {
         room.samples.extend(row.iter().map(|&v| f32::from(v)));
@@ -229,7 +247,7 @@ fn search_block(
     let palette = search_into(&block, lambda, costs, &mut room.map, &mut room.flags)?;
     let listing = list_into(&palette, &[], &mut room.words)?;
     parts.push_list(listing.words);
-    Ok(listing.raw_width)
+    Ok(Listed::of(&palette, &listing))
 }
 
 /// The room for one block, used again for the next.
