@@ -56,21 +56,17 @@ fn output_does_not_depend_on_threads() {
     fs::write(folder.join("a.pgm"), pgm(150, 131, 255, bars)).unwrap();
     for side in [5, 16, 64] {
         for threads in [1, 3, 40] {
-            let names = format!("--lists l{threads} --picture p{threads}");
+            let names = format!("--lists l{threads} --picture p{threads} --report r{threads}");
             printed(
                 &folder,
                 &format!("a.pgm --side {side} --threads {threads} {names}"),
             );
         }
         let read = |name: &str| fs::read(folder.join(name)).unwrap();
-        assert!(
-            read("l1") == read("l3") && read("l1") == read("l40"),
-            "side {side}"
-        );
-        assert!(
-            read("p1") == read("p3") && read("p1") == read("p40"),
-            "side {side}"
-        );
+        for file in ["l", "p", "r"] {
+            let [one, three, many] = [1, 3, 40].map(|threads| read(&format!("{file}{threads}")));
+            assert!(one == three && one == many, "side {side}, file {file}");
+        }
     }
 }
 

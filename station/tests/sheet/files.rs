@@ -10,7 +10,7 @@ fn files_that_cannot_be_written() {
     let folder = folder("unwritable");
     fs::write(folder.join("a.pgm"), pgm(20, 20, 255, bars)).unwrap();
     fs::create_dir(folder.join("taken")).unwrap();
-    for option in ["--lists", "--picture"] {
+    for option in ["--lists", "--picture", "--report"] {
         for path in ["absent/file", "taken", "a.pgm/file", ".."] {
             refused(&folder, &format!("a.pgm {option} {path}"), "cannot write");
         }
@@ -33,6 +33,11 @@ fn files_that_cannot_be_written() {
         "a.pgm --lists good --picture absent/p",
         "cannot write",
     );
+    refused(
+        &folder,
+        "a.pgm --report good --picture absent/p",
+        "cannot write",
+    );
 }
 
 #[test]
@@ -40,8 +45,14 @@ fn a_failed_run_leaves_the_old_file() {
     let folder = folder("old-file");
     fs::write(folder.join("a.pgm"), "P5 1 1 255 ").unwrap();
     fs::write(folder.join("lists"), "old").unwrap();
-    refused(&folder, "a.pgm --lists lists", "cut off in row 0");
-    assert_eq!(fs::read(folder.join("lists")).unwrap(), b"old");
+    for option in ["--lists", "--report"] {
+        refused(
+            &folder,
+            &format!("a.pgm {option} lists"),
+            "cut off in row 0",
+        );
+        assert_eq!(fs::read(folder.join("lists")).unwrap(), b"old");
+    }
     fs::write(folder.join("a.pgm"), "P5 1 1 255 x").unwrap();
     assert_eq!(blocks(&folder, "a.pgm"), "       0       8\n78\n");
     assert_eq!(names(&folder), ["a.pgm", "lists"]);
@@ -54,13 +65,13 @@ fn parts_that_a_killed_run_left_are_no_hindrance() {
     let folder = folder("stale-parts");
     let bytes = pgm(400, 400, 255, bars);
     let (first, rest) = bytes.split_at(150_000);
-    let mut child = waiting(&folder, "- --lists lists --picture picture");
+    let mut child = waiting(&folder, "- --lists lists --picture picture --report report");
     // More than a pipe holds: it is reading, and has tried its files before.
     child.stdin.as_mut().unwrap().write_all(first).unwrap();
     // As it names them, and as it did when the name was the target's.
-    let (id, before) = (child.id(), ["lists", "picture"]);
+    let (id, targets) = (child.id(), ["lists", "picture", "report"]);
     let numbered = (0..3).map(|tries| format!(".sheet.{id}.{tries}.part"));
-    let named = before.map(|target| format!(".{target}.{id}.part"));
+    let named = targets.map(|target| format!(".{target}.{id}.part"));
     let mut all: Vec<String> = numbered.chain(named).collect();
     for name in &all {
         fs::write(folder.join(name), "left").unwrap();
@@ -68,7 +79,7 @@ fn parts_that_a_killed_run_left_are_no_hindrance() {
     let output = fed(child, rest);
     let errors = String::from_utf8(output.stderr).unwrap();
     assert!(output.status.success(), "{errors}");
-    all.extend(["lists", "picture"].map(String::from));
+    all.extend(targets.map(String::from));
     all.sort();
     assert_eq!(names(&folder), all);
 }
@@ -197,7 +208,8 @@ fn check_full(folder: &Path, lists: &str) {
         .write(true)
         .open("/dev/full")
         .unwrap();
-    let output = command(folder, ["a.pgm", "--lists", lists, "--picture", "p"])
+    let words = format!("a.pgm --lists {lists} --picture p --report r");
+    let output = command(folder, words.split_whitespace())
         .stdout(full)
         .output()
         .unwrap();

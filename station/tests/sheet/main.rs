@@ -11,6 +11,7 @@ mod levels;
 mod mutations;
 mod options;
 mod pictures;
+mod report;
 mod scans;
 mod script;
 mod summary;

@@ -97,8 +97,11 @@ fn is_scan(bytes: &[u8]) -> bool {
         && raster.chunks(wide).all(|sample| value(sample) <= maxval)
 }
 
+/// What the options have written.
+const FILES: [&str; 3] = ["l", "p", "r"];
+
 /// Options with values that are in order, and with some that are not.
-const OPTIONS: [(&str, &[&str], &[&str]); 7] = [
+const OPTIONS: [(&str, &[&str], &[&str]); 8] = [
     (
         "--side",
         &["1", "5", "16", "64", "064", "+8"],
@@ -126,6 +129,7 @@ const OPTIONS: [(&str, &[&str], &[&str]); 7] = [
     ),
     ("--lists", &["l", "./l", "-"], &["absent/l", ".", "costs/l"]),
     ("--picture", &["p"], &["absent/p", "..", "-"]),
+    ("--report", &["r", "./r"], &["absent/r", "few/r", "-"]),
 ];
 
 /// Words for the command line, and whether they are in order.
@@ -219,7 +223,7 @@ fn check(folder: &Path, words: &[String], due: bool, output: &Output, before: &[
             .iter()
             .any(|word| word.trim_start_matches("./") == *name)
     };
-    let asked = ["l", "p"].into_iter().filter(is_asked).map(String::from);
+    let asked = FILES.into_iter().filter(is_asked).map(String::from);
     let mut all: Vec<String> = before.iter().cloned().chain(asked).collect();
     all.sort();
     assert_eq!(after, all, "{words:?}");
@@ -247,7 +251,7 @@ fn a_thousand_changed_files_and_options() {
         run.stdin(File::open(folder.join("a.pgm")).unwrap());
         check(&folder, &all, due, &ended(run), &before);
         good_runs += usize::from(due);
-        for name in ["l", "p"] {
+        for name in FILES {
             let _ = fs::remove_file(folder.join(name));
         }
     }

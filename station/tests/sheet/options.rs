@@ -25,6 +25,14 @@ fn bad_options() {
         ("--lists l --picture ./l", "used twice"),
         ("--lists ./a.pgm", "used twice"),
         ("--picture -", "only the sheet and --lists"),
+        ("--report -", "only the sheet and --lists"),
+        ("--report", "needs a value"),
+        ("--report r --report s", "given twice"),
+        ("--report ./a.pgm", "used twice"),
+        ("--report r --lists ./r", "used twice"),
+        ("--report r --picture ./r", "used twice"),
+        ("--report c --costs ./c", "used twice"),
+        ("--report r --sample s", "goes without a sheet"),
         ("--levels 1", "--levels is 2 to 32"),
         ("--levels 33", "--levels is 2 to 32"),
         ("--levels x", "--levels is 2 to 32"),
@@ -65,7 +73,7 @@ fn help() {
     let folder = folder("help");
     let help = printed(&folder, "--help");
     for option in [
-        "side", "levels", "lambda", "costs", "threads", "lists", "picture", "sample",
+        "side", "levels", "lambda", "costs", "threads", "lists", "picture", "report", "sample",
     ] {
         assert!(help.contains(&format!("--{option} ")), "{option}");
     }

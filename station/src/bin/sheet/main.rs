@@ -20,6 +20,7 @@ use std::fs::File;
 use std::io::{self, BufReader, BufWriter, Write};
 use std::process::ExitCode;
 use std::time::{Duration, Instant};
+use summary::Run;
 use whole::Staged;
 
 fn main() -> ExitCode {
@@ -54,12 +55,17 @@ fn work(options: &Options) -> Result<(), String> {
     let scan = scan(options)?;
     let (searched, search) = search(options, costs, &scan)?;
     // All files are whole and all is printed before the first file takes its place.
-    let files = stage(options, &scan, &searched.form)?;
+    let files = stage(options, &scan, &searched)?;
+    let run = Run {
+        searched: &searched,
+        reported: options.report.is_some(),
+        search,
+        start,
+    };
     let printed = if options.prints_lists() {
-        print_lists(&searched.form)
-            .and_then(|()| summary::write(&searched, search, start, &mut io::stderr().lock()))
+        print_lists(&searched.form).and_then(|()| run.write(&mut io::stderr().lock()))
     } else {
-        summary::write(&searched, search, start, &mut io::stdout().lock())
+        run.write(&mut io::stdout().lock())
     };
     printed.map_err(cannot_print)?;
     whole::commit(files)
@@ -98,13 +104,17 @@ fn search(options: &Options, costs: Costs, scan: &Scan) -> Result<(Searched, Dur
     Ok((searched, start.elapsed()))
 }
 
-fn stage(options: &Options, scan: &Scan, form: &Form) -> Result<Vec<Staged>, String> {
+fn stage(options: &Options, scan: &Scan, searched: &Searched) -> Result<Vec<Staged>, String> {
+    let form = &searched.form;
     let mut files = Vec::new();
     if let Some(path) = options.lists_file() {
         files.push(whole::stage(path, |out| form.write(out))?);
     }
     if let Some(path) = &options.picture {
         files.push(whole::stage(path, |out| picture::write(scan, form, out))?);
+    }
+    if let Some(path) = &options.report {
+        files.push(whole::stage(path, |out| searched.report.write(out))?);
     }
     if let Some(path) = &options.sample {
         files.push(whole::stage(path, |out| pgm::write(scan, out))?);

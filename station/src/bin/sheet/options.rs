@@ -30,6 +30,9 @@ standard input. Without FILE a sample drawing is made and searched.
   --picture FILE  write the sheet as PPM, its blocks tinted: found with 2 to 8
                   colours green to blue to violet; refused for its sides (8)
                   yellow, one level (9) grey, more than 32 levels (10) red
+  --report FILE   write a line for each block with a palette, up to 9999: its
+                  number, calls, cells and raw width; at the end 0, the totals,
+                  and raw width per cell as numerator and denominator
   --sample FILE   write the sample drawing as PGM, where FILE is not given
   --help          print this
 ";
@@ -47,13 +50,14 @@ pub struct Options {
     pub costs: Option<PathBuf>,
     pub lists: Option<PathBuf>,
     pub picture: Option<PathBuf>,
+    pub report: Option<PathBuf>,
     pub sample: Option<PathBuf>,
 }
 
 impl Options {
     /// The files that are written.
     pub fn files(&self) -> impl Iterator<Item = &Path> {
-        let others = [&self.picture, &self.sample].map(Option::as_deref);
+        let others = [&self.picture, &self.report, &self.sample].map(Option::as_deref);
         [self.lists_file()].into_iter().chain(others).flatten()
     }
 
@@ -112,6 +116,7 @@ fn defaults() -> Options {
         costs: None,
         lists: None,
         picture: None,
+        report: None,
         sample: None,
     }
 }
@@ -129,7 +134,7 @@ fn set_input(options: &mut Options, word: OsString) -> Result<(), String> {
 }
 
 fn known(word: &OsStr) -> Result<&'static str, String> {
-    const NAMES: [&str; 8] = [
+    const NAMES: [&str; 9] = [
         "--side",
         "--levels",
         "--lambda",
@@ -137,6 +142,7 @@ fn known(word: &OsStr) -> Result<&'static str, String> {
         "--costs",
         "--lists",
         "--picture",
+        "--report",
         "--sample",
     ];
     NAMES.into_iter().find(|name| word == *name).ok_or_else(|| {
@@ -154,6 +160,7 @@ fn set(options: &mut Options, name: &str, value: OsString) -> Result<(), String>
         "--costs" => options.costs = Some(value.into()),
         "--lists" => options.lists = Some(value.into()),
         "--picture" => options.picture = Some(value.into()),
+        "--report" => options.report = Some(value.into()),
         _ => options.sample = Some(value.into()),
     }
     Ok(())

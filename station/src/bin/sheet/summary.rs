@@ -1,5 +1,6 @@
 //! What is printed at the end.
 
+use palette_station::report::{Report, MAX_BLOCKS};
 use palette_station::sheet::{Form, Levels, Part, Searched};
 use palette_station::Refusal;
 use std::io::{self, Write};
@@ -7,6 +8,17 @@ use std::time::{Duration, Instant};
 
 /// What intake has for a sheet.
 const SECONDS_ALLOWED: u32 = 4;
+
+/// What the summary is of.
+pub struct Run<'a> {
+    pub searched: &'a Searched,
+    /// Whether the block report is written.
+    pub reported: bool,
+    /// The time of search and listing.
+    pub search: Duration,
+    /// When the run began.
+    pub start: Instant,
+}
 
 /// A block is blank, or drawn with a palette or without one.
 #[derive(Default)]
@@ -18,41 +30,37 @@ struct Tally {
     calls: u64,
 }
 
-/// `search` is the time of search and listing, `start` when the run began.
-pub fn write(
-    searched: &Searched,
-    search: Duration,
-    start: Instant,
-    output: &mut impl Write,
-) -> io::Result<()> {
-    let form = &searched.form;
-    let tally = tally(form);
-    let settings = form.settings();
-    let blocks = tally.blank + tally.drawn();
-    let (width, height, depth) = (form.width(), form.height(), form.bd());
-    let mut line = |name: &str, value: String| writeln!(output, "{name:16}  {value}");
-    line("sheet", format!("{width} by {height}, depth {depth}"))?;
-    line("levels", levels(settings.levels))?;
-    line("lambda", settings.lambda.to_string())?;
-    line("blocks", format!("{blocks} of side {}", settings.side))?;
-    line("blank", of(tally.blank, blocks, "all: one level"))?;
-    line("drawn", of(tally.drawn(), blocks, "all"))?;
-    line(
-        "with palette",
-        of(tally.with_palette, tally.drawn(), "the drawn"),
-    )?;
-    line(
-        "without palette",
-        of(tally.without(), tally.drawn(), "the drawn"),
-    )?;
-    line("calls", tally.calls.to_string())?;
-    line("raw width", raw_width(searched.raw_width))?;
-    line("seconds", seconds(start.elapsed(), search))?;
-    line("samples a second", speed(form, search))?;
-    if tally.without() * 10 > tally.drawn() {
-        line("warning", warning(&tally))?;
+impl Run<'_> {
+    pub fn write(&self, output: &mut impl Write) -> io::Result<()> {
+        let form = &self.searched.form;
+        let tally = tally(form);
+        write_settings(form, output)?;
+        tally.write(form.settings().side, output)?;
+        line(output, "raw width", raw_width(self.searched.raw_width))?;
+        if self.reported && self.searched.report.blocks() > MAX_BLOCKS {
+            line(output, "report", cut_off(&self.searched.report))?;
+        }
+        let (all, search) = (self.start.elapsed(), self.search);
+        line(output, "seconds", seconds(all, search))?;
+        line(output, "samples a second", speed(form, search))?;
+        if tally.without() * 10 > tally.drawn() {
+            line(output, "warning", warning(&tally))?;
+        }
+        output.flush()
     }
-    output.flush()
+}
+
+fn line(output: &mut impl Write, name: &str, value: String) -> io::Result<()> {
+    writeln!(output, "{name:16}  {value}")
+}
+
+fn write_settings(form: &Form, output: &mut impl Write) -> io::Result<()> {
+    let settings = form.settings();
+    let (width, height, depth) = (form.width(), form.height(), form.bd());
+    let sheet = format!("{width} by {height}, depth {depth}");
+    line(output, "sheet", sheet)?;
+    line(output, "levels", levels(settings.levels))?;
+    line(output, "lambda", settings.lambda.to_string())
 }
 
 fn tally(form: &Form) -> Tally {
@@ -83,6 +91,18 @@ impl Tally {
     fn drawn(&self) -> usize {
         self.with_palette + self.without()
     }
+
+    fn write(&self, side: usize, output: &mut impl Write) -> io::Result<()> {
+        let (all, drawn) = (self.blank + self.drawn(), self.drawn());
+        let with = of(self.with_palette, drawn, "the drawn");
+        let without = of(self.without(), drawn, "the drawn");
+        line(output, "blocks", format!("{all} of side {side}"))?;
+        line(output, "blank", of(self.blank, all, "all: one level"))?;
+        line(output, "drawn", of(drawn, all, "all"))?;
+        line(output, "with palette", with)?;
+        line(output, "without palette", without)?;
+        line(output, "calls", self.calls.to_string())
+    }
 }
 
 fn of(count: usize, whole: usize, name: &str) -> String {
@@ -99,6 +119,12 @@ fn levels(levels: Option<Levels>) -> String {
 
 fn raw_width(bits: u64) -> String {
     format!("{bits} bits that the coder writes as they are")
+}
+
+/// For a page that does not have all blocks.
+fn cut_off(report: &Report) -> String {
+    let found = report.blocks();
+    format!("the first {MAX_BLOCKS} of {found} blocks with palette")
 }
 
 fn seconds(all: Duration, search: Duration) -> String {
