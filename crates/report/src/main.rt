@@ -20,7 +20,7 @@ fn walk(buf: &mut [u8])
         let at = w.at;
         let end = w.end;
         let more = w.more;
-        let r = reporting::step(&buf[at..end], page, &mut out);
+        let r = reporting::step(&buf[at..end], more, page, &mut out);
         let count = r.count;
         io::write_all(1, &out[..count]);
         if r.taken == 0 {

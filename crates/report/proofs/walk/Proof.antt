@@ -1,13 +1,16 @@
 -- Each step lies within the window, and each but the last adds a line. Assumes nothing but what io's functions say.
 use native.Mathlib.Omega.{arith}
 use borrow.Author.Needs.{needs}
-use Prim.Native.Nat.{_≤_, _+_, _-_}
+use Prim.Native.Nat.{ℕ, _≤_, _+_, _-_}
 use mathlib.Core.Path.{_≡_, refl, sym, ap, _∙_, subst}
-use lib.ListN.{length, drop, length-take}
+use mathlib.Core.Bool.{Bool, false}
+use mathlib.Core.List.{List}
+use mathlib.Core.Logic.{_⊎_, inl, inr, ⊎-elim}
+use lib.ListN.{length, take, drop, length-take, length-drop}
 use lib.Seq.{length-take-le}
 use Rattle.window.specs.Window.{Inside}
 use Rattle.reporting.specs.declared.Page.{Page}
-use Rattle.reporting.specs.Steps.{blank, Small}
+use Rattle.reporting.specs.Steps.{blank, Ready, Small}
 use Rattle.reporting.proofs.Stream.{lines-after}
 use Rattle.report.proofs.walk.Statement.{statement}
 use Rattle.report.proofs.walk.Tie as tie
@@ -44,20 +47,33 @@ part-step-end c = let i = c .before .before .before .hold .ensures .inside in om
 slice-aggregate-step : tie.Need-slice-aggregate-step Inv-loop μ-loop
 slice-aggregate-step c = sym (c .before .before .before .before .before .before .before .before .before .loop .inv .2)
 
+-- the bytes that are lent are as many as the window has
+ready : (buf : List ℕ) (at end : ℕ) (more : Bool) → at ≤ end → end ≤ length buf → (33973 ≤ end - at) ⊎ (more ≡ false)
+    → Ready (take (end - at) (drop at buf)) more
+ready buf at end more order inside =
+    let long : length (take (end - at) (drop at buf)) ≡ end - at =
+    length-take-le (end - at) (drop at buf) (simp length-drop (omega (arith, order, inside))) in
+    ⊎-elim (λ w. inl (omega (arith, w, long))) (λ e. inr e)
+
 step-requires : tie.Need-step-requires Inv-loop μ-loop
 step-requires c κs =
     let l = c .before .before .before .before .before .before .before .before .before .loop in
-    (l .inv .3, omega (arith, c .before .before .before .before .before .before .before .if1 .taken), omega (arith, l .inv .2))
+    let r = c .before .before .before .before .before .hold in
+    let i = r .ensures .inside in
+    (
+      ready (r .last .0) (r .result .at) (r .result .end) (r .result .more) (i .order) (i .end) (r .ensures .enough),
+      (l .inv .3, omega (arith, c .before .before .before .before .before .before .before .if1 .taken), omega (arith, l .inv .2)),
+    )
 
 array-share-prefix-out : tie.Need-array-share-prefix-out Inv-loop μ-loop
 array-share-prefix-out c =
     let s = c .before .step in
-    omega (arith, s .ensures .1 .2, s .kept .1 .1 .0, c .before .before .before .before .before .before .before .before .before .before .before .loop .inv .2)
+    omega (arith, s .ensures .1 .2, s .kept .1 .1 .1 .0, c .before .before .before .before .before .before .before .before .before .before .before .loop .inv .2)
 
 slice-aggregate-write-all : tie.Need-slice-aggregate-write-all Inv-loop μ-loop
 slice-aggregate-write-all c =
     let s = c .before .before .step in
-    sym (length-take-le _ (s .last .1 .1 .0) (omega (arith, s .ensures .1 .2, s .kept .1 .1 .0, c .before .before .before .before .before .before .before .before .before .before .before .before .loop .inv .2)))
+    sym (length-take-le _ (s .last .1 .1 .1 .0) (omega (arith, s .ensures .1 .2, s .kept .1 .1 .1 .0, c .before .before .before .before .before .before .before .before .before .before .before .before .loop .inv .2)))
 
 write-all-requires : tie.Need-write-all-requires Inv-loop μ-loop
 write-all-requires c κs = search needs
@@ -103,7 +119,7 @@ loop-again c =
     let s = stepped .step in (
       record { order = within stepped; end = r .ensures .inside .end },
       r .kept .0 ∙ l .inv .1,
-      s .kept .1 .1 .0 ∙ l .inv .2,
+      s .kept .1 .1 .1 .0 ∙ l .inv .2,
       s .ensures .1 .0,
     )
 
