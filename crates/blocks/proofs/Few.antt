@@ -1,19 +1,18 @@
 -- A block counts little: so many calls, cells and bits of raw width at most. Assumes nothing.
-use Prim.Native.Nat.{ℕ, zero, suc, _+_, _*_, _/_, _%_, _^_, _≤_, _<_, _-_}
+use Prim.Native.Nat.{ℕ, _+_, _*_, _/_, _%_, _^_, _≤_, _<_, _-_}
 use mathlib.Core.Path.{_≡_, refl, sym, subst}
 use mathlib.Core.Bool.{Bool, true, false, cond}
-use mathlib.Core.List.{List, [], _∷_, _++_}
-use native.Mathlib.Nat.{mul-le-mul}
+use mathlib.Core.List.{List, [], _∷_}
 use native.Mathlib.Omega.{arith}
 use lib.Dec.{eqb}
-use lib.ListN.{length, getD}
-use borrow.Author.Tests.{eqb-true, eq-eqb, ne-eqb, leb-true}
+use lib.ListN.{length}
+use borrow.Author.Tests.{eqb-true, leb-true}
 use Rattle.lists.specs.Counted.{bit, elem}
 use Rattle.lists.proofs.Choice.{either-way}
-use Rattle.counts.specs.Counts.{ceilLog2, orientSent}
+use Rattle.counts.specs.Counts.{orientSent}
 use Rattle.counts.proofs.Log.{ceil-least}
 use Rattle.context.specs.Map.{linesOf, lengthOf}
-use Rattle.literals.specs.Words.{word, bypass, rawBits, rawWidth}
+use Rattle.literals.specs.Words.{word, rawBits, rawWidth}
 use Rattle.literals.specs.Literals.{literalWords}
 use Rattle.literals.proofs.Words.{raw-word}
 use Rattle.literals.proofs.Widths.{length-literals}
@@ -61,7 +60,15 @@ colors-raw : (bd : ℕ) (cache cs : List ℕ) → rawWidth (colorWords bd cache 
 unfolding colorWords rawWidth
 colors-raw bd cache cs =
     let literals = literalWords bd (untaken cache cs) in
-    omega (arith, bits-most (word 3 0 (length cs - 2)), raw-append (cacheWords cache cs) literals, cache-raw cache cs, raw-most literals, length-literals bd (untaken cache cs), untaken-few cache cs)
+    omega (
+      arith,
+      bits-most (word 3 0 (length cs - 2)),
+      raw-append (cacheWords cache cs) literals,
+      cache-raw cache cs,
+      raw-most literals,
+      length-literals bd (untaken cache cs),
+      untaken-few cache cs,
+    )
 
 bit-most : (b : Bool) → bit b ≤ 1
 bit-most true = omega arith
@@ -112,7 +119,7 @@ listed-few taken w h bd cache p small =
     ] in
     go (eqb number 0) refl
 
-block-few : (s : List ℕ) → Few (blockOf s)
+pub block-few : (s : List ℕ) → Few (blockOf s)
 unfolding blockOf
 block-few s =
     let h = readHeader s 0 in

@@ -1,3 +1,4 @@
 pub mod Few
+pub mod Front
 pub mod Listed
 pub mod Read

@@ -1,3 +1,5 @@
-pub mod Lowest
+pub mod Fits
+pub mod Follow
 pub mod Lines
+pub mod Lowest
 pub mod Stream

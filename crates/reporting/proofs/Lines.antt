@@ -1,7 +1,7 @@
 -- Lines of the report: four fields in front of the rest, lengths, and the ends of a step. Assumes nothing.
-use Prim.Native.Nat.{ℕ, _+_, _*_, _≤_, _<_}
+use Prim.Native.Nat.{ℕ, _+_, _<_}
 use mathlib.Core.Path.{_≡_, refl, sym, ap, _∙_}
-use mathlib.Core.Bool.{Bool, true, false, cond}
+use mathlib.Core.Bool.{true, false}
 use mathlib.Core.List.{List, [], _∷_, _++_, append-assoc, append-nil}
 use native.Mathlib.Omega.{arith}
 use lib.Dec.{eqb}
@@ -15,7 +15,6 @@ use Rattle.printing.proofs.Laws.{length-field, length-line}
 use Rattle.blocks.specs.declared.Block.{Block}
 use Rattle.blocks.specs.Block.{refusedBlock, blockOf}
 use Rattle.reporting.specs.declared.Page.{Page}
-use Rattle.reporting.specs.declared.Stepped.{Stepped}
 use Rattle.reporting.specs.Fraction.{fraction}
 use Rattle.reporting.specs.Report.{blockLine, lastLine}
 use Rattle.reporting.specs.Steps.{with, nextBlock, takenOf, pageAfter, printedOf, Steps}

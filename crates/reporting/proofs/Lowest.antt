@@ -1,8 +1,9 @@
 -- `gcd` divides both numbers and is divided by every common divisor, so `fraction` is exact and in lowest terms. Assumes nothing.
-use mathlib.Core.Path.{_≡_, refl, sym, ap, _∙_, subst}
+use mathlib.Core.Path.{_≡_, refl}
 use mathlib.Core.Bool.{Bool, true, false, cond}
-use Prim.Native.Nat.{ℕ, zero, suc, _+_, _*_, _/_, _%_, _<_, _≤_, _∣_}
-use native.Mathlib.Nat.{mod-lt, one-mul, dvd-refl, dvd-zero, dvd-mod-iff, div-mul-cancel, mul-dvd-mul-right, dvd-of-mul-dvd-mul-right, eq-one-of-dvd-one, pos-of-dvd-of-pos}
+use Prim.Native.Nat.{ℕ, zero, suc, _*_, _/_, _%_, _<_, _∣_}
+use native.Mathlib.Nat.{mod-lt, one-mul, div-mul-cancel, mul-dvd-mul-right, dvd-of-mul-dvd-mul-right}
+use native.Mathlib.Nat.{dvd-refl, dvd-zero, dvd-mod-iff, eq-one-of-dvd-one, pos-of-dvd-of-pos}
 use mathlib.Core.List.{[], _∷_}
 use native.Mathlib.Omega.{arith}
 use lib.Dec.{eqb}

@@ -1,6 +1,6 @@
 -- Reading in pieces changes no report: a palette has at most 33,972 bytes, and the program has one more before it, or all that
 -- is left. Assumes nothing.
-use Prim.Native.Nat.{ℕ, zero, suc, _+_, _-_, _*_, _≤_, _<_}
+use Prim.Native.Nat.{ℕ, zero, suc, _+_, _-_, _≤_, _<_}
 use mathlib.Core.Path.{_≡_, refl, sym, ap, _∙_}
 use mathlib.Core.Bool.{Bool, true, false, cond}
 use mathlib.Core.List.{List, [], _∷_, _++_, append-assoc, append-nil}
@@ -12,9 +12,7 @@ use lib.ListN.{length, getD, take, drop, length-append, List·getD-append, take-
 use lib.Seq.{drop-append-le, length-take-le}
 use borrow.Author.Tests.{eqb-true, eqb-false, eq-eqb, ne-eqb, leb-true, leb-false}
 use Rattle.lists.proofs.Choice.{either-way}
-use Rattle.accept.specs.Palette.{Palette}
-use Rattle.text.specs.declared.Header.{Header}
-use Rattle.text.specs.Text.{readHeader, headerAt, textNumber, placesOf, cacheAt, paletteAt}
+use Rattle.text.specs.Text.{readHeader, textNumber, placesOf, cacheAt, paletteAt}
 use Rattle.text.proofs.Sound.{read-small, read-whole, end-small}
 use Rattle.text.proofs.Within.{end-within}
 use Rattle.text.proofs.Answered.{number-read}
@@ -25,7 +23,7 @@ use Rattle.blocks.proofs.Listed.{listed-taken}
 use Rattle.reporting.specs.declared.Page.{Page}
 use Rattle.reporting.specs.Report.{blocksOf, blockLine, blockLines, total, pageOf, lastLine, report}
 use Rattle.reporting.specs.Steps.{blank, with, nextBlock, takenOf, pageAfter, printedOf}
-use Rattle.reporting.specs.Stream.{Enough, run, StepsReport}
+use Rattle.reporting.specs.Stream.{Enough, run, StepsReport, filling}
 
 -- ---- a block through a window: u before the program, v behind it
 
@@ -242,3 +240,26 @@ module _ (reads : Page → List ℕ → List ℕ → ℕ)
 
 pub steps-report : StepsReport
 steps-report reads enough s = run-is reads enough 9999 blank [] s refl ∙ whole-report s
+
+-- ---- the program's own reads
+
+module _ (room : ℕ) (wide : 33973 ≤ room) (u v : List ℕ) where
+  more-by : leb 33973 (length u) ≡ false → (t : Bool) → leb (length v) (room - length u) ≡ t
+      → Enough (u ++ take (room - length u) v) (drop (room - length u) v)
+  more-by e true f = inr (drop-of-length-le v {i = room - length u} (leb-true (length v) (room - length u) f))
+  more-by e false f =
+      let l : length u < 33973 = leb-false 33973 (length u) e in
+      let m : room - length u < length v = leb-false (length v) (room - length u) f in
+      inl (omega (arith, length-append u (take (room - length u) v), length-take-le (room - length u) v (omega arith)))
+
+  enough-by : (t : Bool) → leb 33973 (length u) ≡ t
+      → Enough (u ++ take (cond t 0 (room - length u)) v) (drop (cond t 0 (room - length u)) v)
+  enough-by true e = inl (omega (arith, leb-true 33973 (length u) e, length-append u (take 0 v)))
+  enough-by false e = more-by e (leb (length v) (room - length u)) refl
+
+  filling-enough : (p : Page) → Enough (u ++ take (filling room p u v) v) (drop (filling room p u v) v)
+  unfolding filling
+  filling-enough p = enough-by (leb 33973 (length u)) refl
+
+pub filled-report : (room : ℕ) → 33973 ≤ room → (s : List ℕ) → run (filling room) 10000 blank [] s ≡ report s
+filled-report room wide = steps-report (filling room) (λ p u v. filling-enough room wide u v p)

@@ -1,3 +1,4 @@
+pub mod Follow
 pub mod Fraction
 pub mod Report
 pub mod Reports

@@ -1,7 +1,6 @@
 -- Document 02, L1: small reports, as one claim on the definitions. Assumes nothing.
 use Prim.Native.String.{String}
 use mathlib.Core.Path.{_≡_, refl}
-use mathlib.Core.Bool.{cond}
 use mathlib.Core.List.{List, [], _∷_, _++_, map}
 use Prim.Native.Nat.{ℕ}
 use Rattle.lists.specs.Counted.{upTo, allBelow, allIn, elem, above, ascending}
@@ -61,7 +60,7 @@ reports =
       report (
           lines (
           good ++ block "     235      16" "       0       0       1       1"
-              ++ block "      16     235" "       0       0       1       2" ++ good
+          ++ block "      16     235" "       0       0       1       2" ++ good
           )
           ),
       lines (

@@ -1,10 +1,10 @@
 -- Document 02, L1: the program reads its input in pieces. That this changes no report is proved in proofs/Stream.antt.
-use Prim.Native.Nat.{ℕ, zero, suc, _≤_}
+use Prim.Native.Nat.{ℕ, zero, suc, _-_, _≤_}
 use mathlib.Core.Path.{_≡_}
 use mathlib.Core.Bool.{cond}
 use mathlib.Core.List.{List, [], _++_}
 use mathlib.Core.Logic.{_⊎_}
-use lib.Dec.{eqb}
+use lib.Dec.{eqb, leb}
 use lib.ListN.{length, take, drop}
 use Rattle.reporting.specs.declared.Page.{Page}
 use Rattle.reporting.specs.Report.{report}
@@ -28,3 +28,7 @@ StepsReport =
     (reads : Page → List ℕ → List ℕ → ℕ)
     → ((p : Page) (u v : List ℕ) → Enough (u ++ take (reads p u v) v) (drop (reads p u v) v))
     → (s : List ℕ) → run reads 10000 blank [] s ≡ report s
+
+-- the program's own reads: where there is not enough, what its window of `room` bytes still holds
+unfoldable pub filling : ℕ → Page → List ℕ → List ℕ → ℕ
+filling room p u v = cond (leb 33973 (length u)) 0 (room - length u)

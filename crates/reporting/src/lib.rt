@@ -2,10 +2,8 @@
 // Open to the program only: functions may require room, and a page of fewer than 10,000 lines.
 use blocks::Block;
 ghost use mathlib.Core.Path.{_≡_};
-ghost use mathlib.Core.Bool.{cond};
 ghost use mathlib.Core.List.{[], _∷_, _++_};
 ghost use Prim.Native.Nat.{_+_, _<_, _≤_};
-ghost use lib.Dec.{eqb};
 ghost use lib.ListN.{length};
 ghost use Rattle.lists.specs.Written.{written};
 ghost use Rattle.printing.specs.Printing.{field};

@@ -1,5 +1,5 @@
 -- The answer is the front block's: its number, or its list. Assumes nothing.
-use Prim.Native.Nat.{ℕ, _≤_}
+use Prim.Native.Nat.{ℕ}
 use mathlib.Core.Path.{_≡_, refl, sym, ap, _∙_}
 use mathlib.Core.Bool.{Bool, true, false, cond, _||_}
 use mathlib.Core.List.{List}
@@ -10,16 +10,14 @@ use lib.Seq.{take-append-seam}
 use borrow.Author.Tests.{eqb-true, eqb-false, eq-eqb, ne-eqb}
 use Rattle.lists.specs.Written.{front}
 use Rattle.printing.specs.Printing.{listed, refused}
-use Rattle.accept.specs.Palette.{Palette}
 use Rattle.accept.specs.Accepted.{refusal}
-use Rattle.listing.specs.Listing.{callList}
 use Rattle.text.specs.declared.Header.{Header}
 use Rattle.text.specs.Text.{headerAt, placesOf, textNumber, readHeader, cacheAt, paletteAt}
 use Rattle.text.specs.Answer.{shown, answer}
 use Rattle.text.proofs.Sound.{read-whole}
 use Rattle.text.proofs.Answered.{number-read}
 use Rattle.blocks.specs.declared.Block.{Block}
-use Rattle.blocks.specs.Block.{refusedBlock, listedBlock, blockOf, wordsOf}
+use Rattle.blocks.specs.Block.{blockOf, wordsOf}
 use Rattle.blocks.proofs.Listed.{listed-number, listed-taken}
 use Rattle.blocks.proofs.Read.{block-refused, block-listed, calls-told}
 use Rattle.respond.specs.Number.{numberOf}

@@ -3,11 +3,11 @@
 use Prim.Native.Nat.{ℕ, zero, suc, _+_, _*_, _≤_, _<_}
 use mathlib.Core.Path.{_≡_, refl, sym, ap, _∙_}
 use mathlib.Core.Bool.{Bool, true, false, cond}
-use mathlib.Core.List.{List}
+use mathlib.Core.List.{List, _++_}
 use native.Mathlib.Nat.{suc-mul, le-of-lt, zero-add}
 use native.Mathlib.Omega.{arith}
 use lib.Dec.{leb, eqb}
-use lib.ListN.{length, getD, take}
+use lib.ListN.{length, getD, take, List·getD-append}
 use lib.Seq.{take-all, getD-take, length-take-le}
 use borrow.Author.Tests.{leb-true, leb-false, eqb-true, ne-eqb}
 use Rattle.fields.specs.declared.Field.{Field}
@@ -18,6 +18,7 @@ use Rattle.text.specs.declared.Header.{Header}
 use Rattle.text.specs.Text.{most, numberAt, headerAt, headerFault, linesIn, placesOf, isBody, textNumber, readHeader, cacheAt, paletteAt}
 use Rattle.text.specs.Answer.{answer}
 use Rattle.text.proofs.Sound.{sound, end-small, in-form-small}
+use Rattle.text.proofs.Within.{end-within}
 
 -- a window u on a text s: from place k on, for `room` bytes
 module _ (k room : ℕ) (s u : List ℕ) (same : (i : ℕ) → i < room → getD u i 0 ≡ getD s (k + i) 0) where
@@ -96,26 +97,63 @@ module _ (k room : ℕ) (s u : List ℕ) (same : (i : ℕ) → i < room → getD
             rows-same most (a .rows) (b .rows) (h .width) (h .height) (omega arith) (omega arith) .1,
           ) refl
 
-    module _ (wide : at + 33972 ≤ room) where
+    -- the window holds the header, and the body of a header without a fault
+    module _ (head : at + 49 ≤ room) (body : headerFault (headerAt s p) ≡ 0 → placesOf (headerAt s p) at .end ≤ room) where
       number-by : (t : Bool) → eqb (headerFault (headerAt s p)) 0 ≡ t → textNumber u at ≡ textNumber s p
       unfolding textNumber
       number-by true f =
-          let l = end-small (headerAt s p) at (sound (headerAt s p) (eqb-true _ _ f)) in
           rw (
             line-same most at p 6 e (omega arith),
             field-number-same 32 (omega arith),
-            header-same (omega arith),
-            body-same (headerAt s p) (omega (arith, l)),
+            header-same head,
+            body-same (headerAt s p) (body (eqb-true _ _ f)),
           ) refl
       number-by false f =
-          rw (line-same most at p 6 e (omega arith), field-number-same 32 (omega arith), header-same (omega arith), f) refl
+          rw (line-same most at p 6 e (omega arith), field-number-same 32 (omega arith), header-same head, f) refl
+
+      number-within : textNumber u at ≡ textNumber s p
+      number-within = number-by (eqb (headerFault (headerAt s p)) 0) refl
+
+      read-within : readHeader u at ≡ readHeader s p
+      unfolding readHeader
+      read-within = rw (number-within, header-same head) refl
+
+    -- it holds as much as a palette can take
+    module _ (wide : at + 33972 ≤ room) where
+      held : headerFault (headerAt s p) ≡ 0 → placesOf (headerAt s p) at .end ≤ room
+      held f = omega (arith, end-small (headerAt s p) at (sound (headerAt s p) f))
 
       pub number-same : textNumber u at ≡ textNumber s p
-      number-same = number-by (eqb (headerFault (headerAt s p)) 0) refl
+      number-same = number-within (omega arith) held
 
       pub read-same : readHeader u at ≡ readHeader s p
-      unfolding readHeader
-      read-same = rw (number-same, header-same (omega arith)) refl
+      read-same = read-within (omega arith) held
+
+-- ---- a palette in form is read alike whatever follows it
+
+module _ (u v : List ℕ) (z : textNumber u 0 ≡ 0) where
+  at-front : (i : ℕ) → i < length u → getD u i 0 ≡ getD (u ++ v) (0 + i) 0
+  at-front i h = rw zero-add (sym (List·getD-append u v 0 i h))
+
+  ends : placesOf (headerAt u 0) 0 .end ≤ length u
+  ends = end-within u 0 z
+
+  head-inside : 0 + 49 ≤ length u
+  unfolding placesOf
+  head-inside = omega (arith, ends)
+
+  same-header : headerAt u 0 ≡ headerAt (u ++ v) 0
+  same-header = header-same 0 (length u) (u ++ v) u at-front 0 0 refl head-inside
+
+  pub read-front : readHeader u 0 ≡ readHeader (u ++ v) 0
+  read-front =
+      read-within 0 (length u) (u ++ v) u at-front 0 0 refl head-inside (λ f. rw (← same-header) ends)
+
+  pub cache-front : cacheAt u 0 (headerAt u 0) ≡ cacheAt (u ++ v) 0 (headerAt u 0)
+  cache-front = cache-same 0 (length u) (u ++ v) u at-front 0 0 refl (headerAt u 0) ends
+
+  pub palette-front : paletteAt u 0 (headerAt u 0) ≡ paletteAt (u ++ v) 0 (headerAt u 0)
+  palette-front = palette-same 0 (length u) (u ++ v) u at-front 0 0 refl (headerAt u 0) ends
 
 -- ---- the answer
 

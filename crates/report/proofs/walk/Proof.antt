@@ -59,8 +59,7 @@ step-requires : tie.Need-step-requires Inv-loop μ-loop
 step-requires c κs =
     let l = c .before .before .before .before .before .before .before .before .before .loop in
     let r = c .before .before .before .before .before .hold in
-    let i = r .ensures .inside in
-    (
+    let i = r .ensures .inside in (
       ready (r .last .0) (r .result .at) (r .result .end) (r .result .more) (i .order) (i .end) (r .ensures .enough),
       (l .inv .3, omega (arith, c .before .before .before .before .before .before .before .if1 .taken), omega (arith, l .inv .2)),
     )
@@ -68,25 +67,30 @@ step-requires c κs =
 array-share-prefix-out : tie.Need-array-share-prefix-out Inv-loop μ-loop
 array-share-prefix-out c =
     let s = c .before .step in
-    omega (arith, s .ensures .1 .2, s .kept .1 .1 .1 .0, c .before .before .before .before .before .before .before .before .before .before .before .loop .inv .2)
+    let lent = c .before .before .before .before .before .before in
+    omega (arith, s .ensures .1 .2, s .kept .1 .1 .1 .0, lent .before .before .before .before .before .loop .inv .2)
 
 slice-aggregate-write-all : tie.Need-slice-aggregate-write-all Inv-loop μ-loop
 slice-aggregate-write-all c =
     let s = c .before .before .step in
-    sym (length-take-le _ (s .last .1 .1 .1 .0) (omega (arith, s .ensures .1 .2, s .kept .1 .1 .1 .0, c .before .before .before .before .before .before .before .before .before .before .before .before .loop .inv .2)))
+    let lent = c .before .before .before .before .before .before .before in
+    let long = lent .before .before .before .before .before .loop .inv .2 in
+    sym (length-take-le _ (s .last .1 .1 .1 .0) (omega (arith, s .ensures .1 .2, s .kept .1 .1 .1 .0, long)))
 
 write-all-requires : tie.Need-write-all-requires Inv-loop μ-loop
 write-all-requires c κs = search needs
 
 same-length : tie.Need-same-length Inv-loop μ-loop
-same-length c = c .before .before .before .before .before .before .before .before .before .before .before .hold .kept .0 ∙ c .before .before .before .before .before .before .before .before .before .before .before .before .before .before .before .loop .inv .1
+same-length c =
+    let held = c .before .before .before .before .before .before .before .before .before .before .before in
+    held .hold .kept .0 ∙ held .before .before .before .before .loop .inv .1
 
 returns : tie.Need-returns Inv-loop μ-loop
 returns c = search needs
 
 -- what a step takes lies before the program
 within : (c : tie.After-step Inv-loop μ-loop)
-    → c .before .before .before .before .before .before .hold .result .at + c .step .result .taken ≤ c .before .before .before .before .before .before .hold .result .end
+    → let r = c .before .before .before .before .before .before .hold .result in r .at + c .step .result .taken ≤ r .end
 within c =
     let r = c .before .before .before .before .before .before .hold in
     let i = r .ensures .inside in
@@ -95,9 +99,10 @@ within c =
 add-t14 : tie.Need-add-t14 Inv-loop μ-loop
 add-t14 c =
     let stepped = c .before .before .before .before .before .before .before in
-    let r = stepped .before .before .before .before .before .before .hold in
-    let l = c .before .before .before .before .before .before .before .before .before .before .before .before .before .before .before .before .before .loop in
-    omega (arith, within stepped, r .ensures .inside .end, r .kept .0, l .inv .1, c .before .before .before .before .before .before .before .before .before .before .before .before .before .before .before .before .before .before .before .before .pre)
+    let held = stepped .before .before .before .before .before .before in
+    let entered = held .before .before .before .before in
+    let r = held .hold in
+    omega (arith, within stepped, r .ensures .inside .end, r .kept .0, entered .loop .inv .1, entered .before .before .before .pre)
 
 -- a step that took something added a line
 line-more : (c : tie.After-step Inv-loop μ-loop) → (c .step .result .taken ≡ 0 → ⊥)

@@ -4,7 +4,7 @@ use borrow.Author.Needs.{needs}
 use mathlib.Core.Path.{sym, ap, _∙_}
 use mathlib.Core.List.{List}
 use Prim.Native.Nat.{ℕ, _+_, _*_, _≤_}
-use lib.ListN.{length, take}
+use lib.ListN.{length}
 use lib.Seq.{length-take-le}
 use denote.Ref.{now}
 use Rattle.lists.specs.Written.{written}
@@ -64,7 +64,8 @@ returns-2 c =
     let told = c .before .before .before .before .before .before .before in
     let b = told .before .before .take-block in
     let start = told .before .before .before .before .before .before .args in
-    let e = answer-listed (now (start .s)) (b .result) (b .ensures .0 .0) _ (told .number-of .ensures) _ _ (b .ensures .1) (c .before .before .before .before .before .before .if1 .left) in
+    let zero = c .before .before .before .before .before .before .if1 .left in
+    let e = answer-listed (now (start .s)) (b .result) (b .ensures .0 .0) _ (told .number-of .ensures) _ _ (b .ensures .1) zero in
     let p = c .before .before .print-listed .ensures in
     (omega (arith, p .0, ap length e), p .1 ∙ ap (λ (x : List ℕ). written (now (start .out)) 0 x) e)
 

@@ -29,12 +29,12 @@ add-buf : tie.Need-add-buf Inv-loop μ-loop
 add-buf c = search needs
 
 slice-read-buf : tie.Need-slice-read-buf Inv-loop μ-loop
-slice-read-buf c = 
+slice-read-buf c =
     let start = c .before .before .before in
     omega (arith, c .before .before .loop .inv .1, start .pre .0, start .pre .1, c .before .loop-test .taken)
 
 slice-write-buf : tie.Need-slice-write-buf Inv-loop μ-loop
-slice-write-buf c = 
+slice-write-buf c =
     let start = c .before .before .before in
     omega (arith, c .before .before .loop .inv .1, start .pre .0, start .pre .1, c .before .loop-test .taken)
 
