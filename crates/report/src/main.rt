@@ -1,9 +1,48 @@
 // The block report: palettes one after the other on standard input, a line for each and one with the totals on standard output.
-// The input goes through a window of 65,536 bytes. A palette takes at most 33,972, and before each step one more is there, or all
-// that is left: so the steps print the whole input's report (`StepsReport` of crate reporting).
+// The input goes through a window of 65,536 bytes. A turn is one of the loop in `StepsReport` (crate reporting), which says that
+// the turns print the whole input's report.
+use reporting::Page;
 use window::Window;
 ghost use mathlib.Core.Path.{_≡_};
+ghost use Prim.Native.Nat.{_≤_};
 ghost use lib.ListN.{length};
+ghost use Rattle.window.specs.Window.{Inside};
+ghost use Rattle.reporting.specs.Steps.{Small};
+ghost use Rattle.report.specs.Turn.{Turns};
+
+// A turn: how many bytes it printed, how many it took (0 where the reading has ended), the page and the window after it.
+pub struct Turned {
+    pub count: usize,
+    pub taken: usize,
+    pub page: Page,
+    pub window: Window,
+}
+
+// Reads more where there is not enough for a step, steps, and drops what the step took.
+fn turn(buf: &mut [u8], w: Window, p: Page, out: &mut [u8]) -> Turned
+    requires { ⌜ Inside w (now buf) × (length (now buf) ≡ 65536) × Small p × (p .lines ≤ 9999) × (90 ≤ length (now out)) ⌝ }
+    ensures { λ r. ⌜ Turns w p (now (buf .entry)) (now (buf .exit)) (now (out .entry)) (now (out .exit)) r ⌝ }
+    ensures { λ r. ⌜ Small (r .page) × (r .count ≤ 90) ⌝ }
+{
+    let held = window::hold(buf, w, 33973);
+    let at = held.at;
+    let end = held.end;
+    let more = held.more;
+    let s = reporting::step(&buf[at..end], p, out);
+    let taken = s.taken;
+    let page = s.page;
+    let window = Window {
+        at: at + taken,
+        end,
+        more,
+    };
+    Turned {
+        count: s.count,
+        taken,
+        page,
+        window,
+    }
+}
 
 fn walk(buf: &mut [u8])
     requires { ⌜ length (now buf) ≡ 65536 ⌝ }
@@ -16,22 +55,14 @@ fn walk(buf: &mut [u8])
     };
     let mut page = reporting::blank_page();
     while page.lines < 10000 {
-        w = window::hold(buf, w, 33973);
-        let at = w.at;
-        let end = w.end;
-        let more = w.more;
-        let r = reporting::step(&buf[at..end], more, page, &mut out);
+        let r = turn(buf, w, page, &mut out);
         let count = r.count;
         io::write_all(1, &out[..count]);
         if r.taken == 0 {
             return;
         }
         page = r.page;
-        w = Window {
-            at: at + r.taken,
-            end,
-            more,
-        };
+        w = r.window;
     }
 }
 

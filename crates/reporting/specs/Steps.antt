@@ -1,9 +1,8 @@
 -- Document 02, L1: one step of the program, over what it has before it, and what pages hold at most.
 use Prim.Native.Nat.{ℕ, _+_, _*_, _≤_}
 use mathlib.Core.Path.{_≡_}
-use mathlib.Core.Bool.{Bool, false, cond}
+use mathlib.Core.Bool.{cond}
 use mathlib.Core.List.{List, [], _++_}
-use mathlib.Core.Logic.{_⊎_}
 use lib.Dec.{eqb}
 use lib.ListN.{length}
 use Rattle.lists.specs.Written.{written}
@@ -36,10 +35,6 @@ unfoldable pub printedOf : Page → List ℕ → List ℕ
 printedOf p s =
     cond (eqb (length s) 0) [] (blockLine (p .lines + 1) (nextBlock p s))
     ++ cond (eqb (takenOf p s) 0) (lastLine (pageAfter p s)) []
-
--- what a step may be asked on: as much as a palette can take and a byte more, or all that is left
-abbrev pub Ready : List ℕ → Bool → Type 0
-Ready s more = (33973 ≤ length s) ⊎ (more ≡ false)
 
 pub record Steps (s : List ℕ) (p : Page) (before after : List ℕ) (r : Stepped) : Type 0 where
   pub taken : r .taken ≡ takenOf p s

@@ -10,7 +10,7 @@ ghost use Rattle.printing.specs.Printing.{field};
 ghost use Rattle.blocks.specs.Block.{Few};
 ghost use Rattle.reporting.specs.Fraction.{gcd, fraction};
 ghost use Rattle.reporting.specs.Report.{blockLine, lastLine};
-ghost use Rattle.reporting.specs.Steps.{blank, with, nextBlock, Ready, Steps, Small};
+ghost use Rattle.reporting.specs.Steps.{blank, with, nextBlock, Steps, Small};
 
 // How many block lines were printed, and their totals.
 pub struct Page {
@@ -158,9 +158,8 @@ fn step_block(s: &[u8], p: Page, out: &mut [u8]) -> Stepped
     }
 }
 
-// One step of the program: s is what it has before it, and there may be more behind it while `more`. Prints from the front of `out`.
-pub fn step(s: &[u8], more: bool, p: Page, out: &mut [u8]) -> Stepped
-    requires { ⌜ Ready (now s) more ⌝ }
+// One step of the program, over what it has before it. Prints from the front of `out`.
+pub fn step(s: &[u8], p: Page, out: &mut [u8]) -> Stepped
     requires { ⌜ Small p × (p .lines ≤ 9999) × (90 ≤ length (now out)) ⌝ }
     ensures { λ r. ⌜ Steps (now (s .entry)) p (now (out .entry)) (now (out .exit)) r ⌝ }
     ensures { λ r. ⌜ Small (r .page) × (r .taken ≤ length (now (s .entry))) × (r .count ≤ 90) ⌝ }

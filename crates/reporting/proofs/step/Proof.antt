@@ -18,12 +18,12 @@ returns c =
     let a = start .args in
     let last = c .before .before .print-last .ensures in (
       step-empty (now (a .s)) (a .p) (now (a .out)) _ _ (c .before .before .before .before .if1 .taken) (last .0) (last .1),
-      (start .pre .1 .0, omega arith, omega (arith, last .0, length-last (a .p))),
+      (start .pre .0, omega arith, omega (arith, last .0, length-last (a .p))),
     )
 
 step-block-requires : tie.Need-step-block-requires
 step-block-requires c κs =
-    let p = c .before .before .before .before .pre .1 in
+    let p = c .before .before .before .before .pre in
     (p .0, p .1, p .2, omega (arith, c .before .if1 .left))
 
 same-length-2 : tie.Need-same-length-2
