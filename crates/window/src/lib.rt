@@ -4,13 +4,24 @@ ghost use mathlib.Core.Path.{_≡_};
 ghost use Prim.Native.Nat.{_-_, _≤_};
 ghost use lib.ListN.{length, take, drop};
 ghost use Rattle.lists.specs.Written.{written};
-ghost use Rattle.window.specs.Window.{shown, Inside, Holds};
+ghost use Rattle.window.specs.Window.{unread, view, Inside, Holds};
 
 // The bytes from `at` up to `end` are before the program, and there may be more while `more`.
 pub struct Window {
     pub at: usize,
     pub end: usize,
     pub more: bool,
+}
+
+// The window before anything is read.
+pub fn unread_input() -> Window
+    ensures { λ r. ⌜ r ≡ unread ⌝ }
+{
+    Window {
+        at: 0,
+        end: 0,
+        more: true,
+    }
 }
 
 // Moves the bytes from `at` up to `end` to the front, and returns how many they are.
@@ -32,7 +43,7 @@ fn move_down(buf: &mut [u8], at: usize, end: usize) -> usize
 fn refill(buf: &mut [u8], w: Window) -> usize
     requires { ⌜ Inside w (now buf) ⌝ }
     ensures { λ r. ⌜ (w .end - w .at ≤ r) × (r ≤ length (now (buf .entry))) ⌝ }
-    ensures { λ r. ⌜ take (w .end - w .at) (now (buf .exit)) ≡ shown w (now (buf .entry)) ⌝ }
+    ensures { λ r. ⌜ take (w .end - w .at) (now (buf .exit)) ≡ view w (now (buf .entry)) ⌝ }
 {
     let left = move_down(buf, w.at, w.end);
     let read = io::read_full(0, &mut buf[left..]);

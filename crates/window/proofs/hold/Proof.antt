@@ -1,5 +1,6 @@
 use native.Mathlib.Omega.{arith}
 use borrow.Author.Needs.{needs}
+use mathlib.Core.Path.{refl}
 use denote.Ref.{now}
 use Rattle.window.proofs.Kept.{holds-same, holds-more}
 use Rattle.window.proofs.hold.Statement.{statement}
@@ -24,8 +25,10 @@ returns-2 c =
     let more = c .before .before in
     let start = more .before .before .before .before .before .before in
     let r = more .refill in
-    holds-more (start .args .w) (now (start .args .buf)) (start .pre .0) (start .args .need) (r .result) _ (omega (arith, start .pre .1, r .kept .0))
-    (r .ensures .0 .0) (omega (arith, r .ensures .0 .1, r .kept .0)) (r .ensures .1)
+    let short = more .before .before .if1 .left in
+    holds-more (start .args .w) (now (start .args .buf)) (start .pre .0) (start .args .need) (r .result) short _
+    (omega (arith, start .pre .1, r .kept .0)) (r .ensures .0 .0) (omega (arith, r .ensures .0 .1, r .kept .0)) (r .ensures .1)
+    _ refl refl refl
 
 pub hold-spec : {M : Type 1} → statement M
 hold-spec = tie.close (tie.spec sub-if1 returns refill-requires same-length returns-2)
