@@ -20,22 +20,24 @@ const SIDES: &[(usize, usize)] = &[
     (3, 9),
 ];
 
-/// Each fifth palette is refused by 11, each seventh by 15, one is of the greatest length.
+/// Each fifth palette is refused by 11, each seventh by 15. Each ninth is of the greatest length, so
+/// that the text is several times as long as a reader's buffer.
 const COLORS_STEP: u64 = 5;
 const LINES_STEP: u64 = 7;
+const GREATEST_STEP: u64 = 9;
 
 /// So many palettes, then the first half of another's text.
 pub fn reported(seed: u64, count: u64) -> Vec<u8> {
-    let text = |place| text_of(&palette(seed, place, count));
+    let text = |place| text_of(&palette(seed, place));
     let mut text_of_all: Vec<u8> = (0..count).flat_map(text).collect();
     let tail = text(count);
     text_of_all.extend(&tail[..tail.len() / 2]);
     text_of_all
 }
 
-fn palette(seed: u64, place: u64, count: u64) -> Lines {
+fn palette(seed: u64, place: u64) -> Lines {
     let random = &mut Random::beside(seed, place, Beside::Report);
-    if place == count / 4 {
+    if place % GREATEST_STEP == GREATEST_STEP - 1 {
         return greatest(random, &[]);
     }
     let sides = SIDES[place as usize % SIDES.len()];

@@ -131,7 +131,10 @@ fn palettes() -> Vec<(Palette, Vec<u16>)> {
 
 #[test]
 fn the_crates_text_has_all_sorts_and_a_tail() {
-    let reading = read(&reported(SEED, PALETTES));
+    let text = reported(SEED, PALETTES);
+    // The report program's buffer is filled, and filled again.
+    assert!(text.len() > 2 * 65_536);
+    let reading = read(&text);
     assert_eq!(reading.blocks.len() as u64, PALETTES + 1);
     assert_eq!(reading.ended_by, Some(17));
     assert!(passed_over(&reading, 11) >= 5 && passed_over(&reading, 15) >= 3);

@@ -36,7 +36,7 @@ blockOf s =
 unfoldable pub wordsOf : List ℕ → List ℕ
 wordsOf s = let h = readHeader s 0 in callList (h .width) (h .height) (h .bd) (cacheAt s 0 h) (paletteAt s 0 h)
 
--- what a block counts at most
+-- what no block exceeds; the bound of the raw width is easily had, not the least one
 pub record Few (b : Block) : Type 0 where
   pub calls : b .calls ≤ 4234
   pub cells : b .cells ≤ 4096

@@ -5,5 +5,6 @@ pub mod Colors
 pub mod Length
 pub mod Lines
 pub mod Raw
+pub mod RawFew
 pub mod Splits
 pub mod Values

@@ -40,7 +40,7 @@ raw-first f (suc (suc n)) some none =
     raw-first f (suc n) (omega arith) (λ i later h. none i later (omega arith)) in
     omega (arith, raw-append (upTo f (suc n)) (f (suc n)), before, none (suc n) (omega arith) (omega arith))
 
-bit-small : (b : Bool) → bit b < 65536
+pub bit-small : (b : Bool) → bit b < 65536
 bit-small true = omega arith
 bit-small false = omega arith
 

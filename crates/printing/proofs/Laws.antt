@@ -47,10 +47,14 @@ length-refused k = length-line (0 ∷ k ∷ [])
 
 -- ---- one piece behind the other
 
+pub piece-then : (l m : List ℕ) (at pos v : ℕ) (ws : List ℕ) → m ≡ written l at (field v) → pos ≡ at + 8
+    → written m pos ws ≡ written l at (field v ++ ws)
+piece-then l m at pos v ws e p = then l m at pos (field v) ws e (omega (arith, p, length-field v))
+
 pub field-then : (l m : List ℕ) (at pos v : ℕ) (vs : List ℕ) → m ≡ written l at (field v) → pos ≡ at + 8
     → written m pos (line vs) ≡ written l at (line (v ∷ vs))
 unfolding line
-field-then l m at pos v vs e p = then l m at pos (field v) (line vs) e (omega (arith, p, length-field v))
+field-then l m at pos v vs e p = piece-then l m at pos v (line vs) e p
 
 -- ---- from the right
 

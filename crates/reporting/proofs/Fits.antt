@@ -9,7 +9,7 @@ use Rattle.blocks.specs.declared.Block.{Block}
 use Rattle.blocks.specs.Block.{refusedBlock, blockOf, Few}
 use Rattle.blocks.proofs.Few.{refused-few, block-few}
 use Rattle.reporting.specs.Report.{blocksOf, total, pageOf}
-use Rattle.reporting.specs.Steps.{Small}
+use Rattle.reporting.specs.Steps.{Fits}
 
 -- at most n blocks, each of which counts little
 record Bounded (n : ℕ) (bs : List Block) : Type 0 where
@@ -44,7 +44,7 @@ blocks-bounded (suc left) s =
     (bounded-cons (suc left) b _ (block-few s)
     (either-way (λ bs. Bounded (suc left) bs) (eqb (b .taken) 0) [] rest (bounded-nil (suc left)) (blocks-bounded left (drop (b .taken) s))))
 
-pub report-fits : (s : List ℕ) → Small (pageOf (blocksOf 9999 s))
+pub report-fits : (s : List ℕ) → Fits (pageOf (blocksOf 9999 s))
 unfolding pageOf
 report-fits s =
     let h = blocks-bounded 9999 s in

@@ -13,9 +13,9 @@ use Rattle.reporting.specs.Report.{blocksOf}
 use Rattle.reporting.specs.Follow.{Whole, Follow, none, next, EachItsBlock}
 
 -- a whole text in front
-front-block : (u s : List ℕ) → Whole u → (left : ℕ) → blocksOf (suc left) (u ++ s) ≡ blockOf u ∷ blocksOf left s
+whole-front : (u s : List ℕ) → Whole u → (left : ℕ) → blocksOf (suc left) (u ++ s) ≡ blockOf u ∷ blocksOf left s
 unfolding blocksOf
-front-block u s w left =
+whole-front u s w left =
     let known : blockOf u .taken ≡ 0 → ⊥ = λ z. omega (arith, z, w .some, w .taken) in
     let some : length (u ++ s) ≡ 0 → ⊥ = λ z. omega (arith, z, w .some, length-append u s) in
     rw (
@@ -31,7 +31,7 @@ each-its-block [] t s none left n e = let z : n ≡ left = omega arith in rw z r
 each-its-block (u ∷ us) t s (next {s = rest} w f) left zero e = absurd (omega (arith, e))
 each-its-block (u ∷ us) t s (next {s = rest} w f) left (suc n) e =
     ap (λ (l : List ℕ). blocksOf (suc n) l) (append-assoc u rest s)
-    ∙ front-block u (rest ++ s) w n
+    ∙ whole-front u (rest ++ s) w n
     ∙ ap (λ (bs : List Block). blockOf u ∷ bs) (each-its-block us rest s f left n (omega (arith, e)))
 
 -- a byte where no more palettes are read

@@ -19,10 +19,6 @@ use Rattle.reporting.specs.Fraction.{fraction}
 use Rattle.reporting.specs.Report.{blockLine, lastLine}
 use Rattle.reporting.specs.Steps.{with, nextBlock, takenOf, pageAfter, printedOf, Steps}
 
-pub piece-then : (l m : List ℕ) (at pos v : ℕ) (ws : List ℕ) → m ≡ written l at (field v) → pos ≡ at + 8
-    → written m pos ws ≡ written l at (field v ++ ws)
-piece-then l m at pos v ws e p = then l m at pos (field v) ws e (omega (arith, p, length-field v))
-
 -- four fields, then the rest of the line
 pub four-then : (l m : List ℕ) (at pos a b c d : ℕ) (vs : List ℕ) → m ≡ written l at (field a ++ (field b ++ (field c ++ field d)))
     → pos ≡ at + 32 → written m pos (line vs) ≡ written l at (line (a ∷ b ∷ c ∷ d ∷ vs))
@@ -72,9 +68,9 @@ pub one-too-many : (p : Page) (s : List ℕ) → p .lines ≡ 9999 → refusedBl
 unfolding nextBlock
 one-too-many p s e = sym (simp (eq-eqb _ _ e))
 
-pub front-block : (p : Page) (s : List ℕ) → (p .lines ≡ 9999 → ⊥) → blockOf s ≡ nextBlock p s
+pub later-block : (p : Page) (s : List ℕ) → (p .lines ≡ 9999 → ⊥) → blockOf s ≡ nextBlock p s
 unfolding nextBlock
-front-block p s n = sym (simp (ne-eqb _ _ n))
+later-block p s n = sym (simp (ne-eqb _ _ n))
 
 -- ---- the three ends of a step
 

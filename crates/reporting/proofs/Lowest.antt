@@ -8,13 +8,13 @@ use mathlib.Core.List.{[], _∷_}
 use native.Mathlib.Omega.{arith}
 use lib.Dec.{eqb}
 use borrow.Author.Tests.{eqb-true, eqb-false, eq-eqb, ne-eqb}
-use Rattle.reporting.specs.Fraction.{gcdBy, gcd, fraction, LowestTerms}
+use Rattle.reporting.specs.Fraction.{gcdBy, gcd, fraction, LowestTerms, FractionIsLowest}
 
 rest-below : (a b k : ℕ) → (b ≡ 0 → ⊥) → b < suc k → a % b < k
 rest-below a b k n h = let z : 0 < b = omega (arith, n) in omega (arith, mod-lt a {m = b} z)
 
 -- any sufficient number of divisions gives the same
-pub gcd-enough : (j k a b : ℕ) → b < j → b < k → gcdBy j a b ≡ gcdBy k a b
+gcd-enough : (j k a b : ℕ) → b < j → b < k → gcdBy j a b ≡ gcdBy k a b
 unfolding gcdBy
 gcd-enough zero k a b h l = absurd (omega arith)
 gcd-enough (suc j) zero a b h l = absurd (omega arith)
@@ -75,11 +75,18 @@ module _ (a b : ℕ) (some : 0 < b) where
   pub gcd-pos : 0 < g
   gcd-pos = pos-of-dvd-of-pos (both .1) some
 
-  pub lowest-terms : LowestTerms a b (a / g) (b / g)
-  lowest-terms =
+  pub fraction-is : fraction a b ≡ a / g ∷ b / g ∷ []
+  unfolding fraction
+  fraction-is = rw (ne-eqb b 0 (λ e. omega arith)) refl
+
+  lowest-by : LowestTerms a b (fraction a b)
+  lowest-by =
       let p : a / g * g ≡ a = div-mul-cancel g (both .0) in
       let q : b / g * g ≡ b = div-mul-cancel g (both .1) in
       record {
+        numerator = a / g;
+        denominator = b / g;
+        shown = fraction-is;
         exact = crossed a b (a / g) (b / g) g p q;
         lowest =
             λ d m n.
@@ -88,7 +95,5 @@ module _ (a b : ℕ) (some : 0 < b) where
             eq-one-of-dvd-one (dvd-of-mul-dvd-mul-right {k = g} d {n = 1} gcd-pos (rw one-mul one));
       }
 
-  -- what the last line shows is in lowest terms
-  pub fraction-is : fraction a b ≡ a / g ∷ b / g ∷ []
-  unfolding fraction
-  fraction-is = rw (ne-eqb b 0 (λ e. omega arith)) refl
+pub lowest-terms : FractionIsLowest
+lowest-terms a b some = lowest-by a b some

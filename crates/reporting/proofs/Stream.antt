@@ -1,5 +1,5 @@
--- Reading in pieces changes no report: a palette has at most 33,972 bytes, and the program has one more before it, or all that
--- is left. Assumes nothing.
+-- Reading in pieces changes no report: a palette has at most 33,972 bytes, and so many are before the program, or all that is
+-- left. Assumes nothing.
 use Prim.Native.Nat.{ℕ, zero, suc, _+_, _-_, _≤_, _<_}
 use mathlib.Core.Path.{_≡_, refl, sym, ap, _∙_}
 use mathlib.Core.Bool.{Bool, true, false, cond}
@@ -8,44 +8,21 @@ use mathlib.Core.Logic.{_⊎_, inl, inr, ⊎-elim}
 use native.Mathlib.Nat.{zero-add, add-zero, add-assoc}
 use native.Mathlib.Omega.{arith}
 use lib.Dec.{eqb, leb}
-use lib.ListN.{length, getD, take, drop, length-append, List·getD-append, take-append-drop, drop-of-length-le}
+use lib.ListN.{length, take, drop, length-append, take-append-drop, drop-of-length-le}
 use lib.Seq.{drop-append-le, length-take-le}
-use borrow.Author.Tests.{eqb-true, eqb-false, eq-eqb, ne-eqb, leb-true, leb-false}
+use borrow.Author.Tests.{eqb-false, eq-eqb, ne-eqb, leb-true, leb-false}
 use Rattle.lists.proofs.Choice.{either-way}
-use Rattle.text.specs.Text.{readHeader, textNumber, placesOf, cacheAt, paletteAt}
-use Rattle.text.proofs.Sound.{read-small, read-whole, end-small}
-use Rattle.text.proofs.Within.{end-within}
-use Rattle.text.proofs.Answered.{number-read}
-use Rattle.text.proofs.Long.{read-same, cache-same, palette-same}
 use Rattle.blocks.specs.declared.Block.{Block}
-use Rattle.blocks.specs.Block.{refusedBlock, listedBlock, blockOf}
-use Rattle.blocks.proofs.Listed.{listed-taken}
+use Rattle.blocks.specs.Block.{refusedBlock, blockOf}
+use Rattle.blocks.proofs.Front.{block-wide, block-within}
 use Rattle.reporting.specs.declared.Page.{Page}
 use Rattle.reporting.specs.Report.{blocksOf, blockLine, blockLines, total, pageOf, lastLine, report}
 use Rattle.reporting.specs.Steps.{blank, with, nextBlock, takenOf, pageAfter, printedOf}
 use Rattle.reporting.specs.Stream.{Enough, run, StepsReport, filling}
 
--- ---- a block through a window: u before the program, v behind it
-
-module _ (u v : List ℕ) (wide : 33973 ≤ length u) where
-  same : (i : ℕ) → i < 33973 → getD u i 0 ≡ getD (u ++ v) (0 + i) 0
-  same i h = rw zero-add (sym (List·getD-append u v 0 i (omega arith)))
-
-  block-wide : blockOf u ≡ blockOf (u ++ v)
-  unfolding blockOf
-  block-wide =
-      let s = u ++ v in
-      let h = readHeader s 0 in
-      let l : placesOf h 0 .end ≤ 33973 = omega (arith, end-small h 0 (read-small s 0)) in
-      rw (
-        read-same 0 33973 s u same 0 0 refl (omega arith),
-        cache-same 0 33973 s u same 0 0 refl h l,
-        palette-same 0 33973 s u same 0 0 refl h l,
-      ) refl
-
-  empty-wide : eqb (length u) 0 ≡ eqb (length (u ++ v)) 0
-  empty-wide =
-      rw (ne-eqb (length u) 0 (λ e. omega arith), ne-eqb (length (u ++ v)) 0 (λ e. omega (arith, length-append u v))) refl
+empty-wide : (u v : List ℕ) → 33972 ≤ length u → eqb (length u) 0 ≡ eqb (length (u ++ v)) 0
+empty-wide u v wide =
+    rw (ne-eqb (length u) 0 (λ e. omega arith), ne-eqb (length (u ++ v)) 0 (λ e. omega (arith, length-append u v))) refl
 
 -- ---- a step over what is there is a step over all that is left
 
@@ -76,23 +53,6 @@ module _ (u v s : List ℕ) (whole : u ++ v ≡ s) (enough : Enough u v) (p : Pa
   printed-same = rw (empty-same, next-same, taken-same, page-same) refl
 
 -- ---- a block lies within what is there
-
-block-within : (s : List ℕ) → blockOf s .taken ≤ length s
-unfolding blockOf
-block-within s =
-    let h = readHeader s 0 in
-    let cache = cacheAt s 0 h in
-    let p = paletteAt s 0 h in
-    let block = listedBlock (placesOf h 0 .end) (h .width) (h .height) (h .bd) cache p in
-    let within : eqb (h .number) 0 ≡ true → placesOf h 0 .end ≤ length s = λ e.
-    let z : textNumber s 0 ≡ 0 = sym (number-read s 0) ∙ eqb-true (h .number) 0 e in
-    rw (← read-whole s 0 z) (end-within s 0 z) in
-    let go : (t : Bool) → eqb (h .number) 0 ≡ t → cond t block (refusedBlock (h .number) 0) .taken ≤ length s =
-    elim [
-      | true ↦ λ e. rw (listed-taken (placesOf h 0 .end) (h .width) (h .height) (h .bd) cache p) (within e)
-      | false ↦ λ e. omega arith
-    ] in
-    go (eqb (h .number) 0) refl
 
 next-within : (p : Page) (s : List ℕ) → nextBlock p s .taken ≤ length s
 unfolding nextBlock
@@ -243,23 +203,23 @@ steps-report reads enough s = run-is reads enough 9999 blank [] s refl ∙ whole
 
 -- ---- the program's own reads
 
-module _ (room : ℕ) (wide : 33973 ≤ room) (u v : List ℕ) where
-  more-by : leb 33973 (length u) ≡ false → (t : Bool) → leb (length v) (room - length u) ≡ t
+module _ (room : ℕ) (wide : 33972 ≤ room) (u v : List ℕ) where
+  more-by : leb 33972 (length u) ≡ false → (t : Bool) → leb (length v) (room - length u) ≡ t
       → Enough (u ++ take (room - length u) v) (drop (room - length u) v)
   more-by e true f = inr (drop-of-length-le v {i = room - length u} (leb-true (length v) (room - length u) f))
   more-by e false f =
-      let l : length u < 33973 = leb-false 33973 (length u) e in
+      let l : length u < 33972 = leb-false 33972 (length u) e in
       let m : room - length u < length v = leb-false (length v) (room - length u) f in
       inl (omega (arith, length-append u (take (room - length u) v), length-take-le (room - length u) v (omega arith)))
 
-  enough-by : (t : Bool) → leb 33973 (length u) ≡ t
+  enough-by : (t : Bool) → leb 33972 (length u) ≡ t
       → Enough (u ++ take (cond t 0 (room - length u)) v) (drop (cond t 0 (room - length u)) v)
-  enough-by true e = inl (omega (arith, leb-true 33973 (length u) e, length-append u (take 0 v)))
+  enough-by true e = inl (omega (arith, leb-true 33972 (length u) e, length-append u (take 0 v)))
   enough-by false e = more-by e (leb (length v) (room - length u)) refl
 
   filling-enough : (p : Page) → Enough (u ++ take (filling room p u v) v) (drop (filling room p u v) v)
   unfolding filling
-  filling-enough p = enough-by (leb 33973 (length u)) refl
+  filling-enough p = enough-by (leb 33972 (length u)) refl
 
-pub filled-report : (room : ℕ) → 33973 ≤ room → (s : List ℕ) → run (filling room) 10000 blank [] s ≡ report s
+pub filled-report : (room : ℕ) → 33972 ≤ room → (s : List ℕ) → run (filling room) 10000 blank [] s ≡ report s
 filled-report room wide = steps-report (filling room) (λ p u v. filling-enough room wide u v p)

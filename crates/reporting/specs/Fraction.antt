@@ -1,5 +1,5 @@
 -- Document 02, L1: a fraction in lowest terms.
-use Prim.Native.Nat.{ℕ, zero, suc, _*_, _/_, _%_, _∣_}
+use Prim.Native.Nat.{ℕ, zero, suc, _*_, _/_, _%_, _<_, _∣_}
 use mathlib.Core.Path.{_≡_}
 use mathlib.Core.Bool.{cond}
 use mathlib.Core.List.{List, [], _∷_}
@@ -18,7 +18,14 @@ gcd a b = gcdBy (suc b) a b
 unfoldable pub fraction : ℕ → ℕ → List ℕ
 fraction a b = cond (eqb b 0) (0 ∷ 1 ∷ []) (a / gcd a b ∷ b / gcd a b ∷ [])
 
--- p / q is a / b, and no number but 1 divides both p and q. Proved of `fraction` in proofs/Lowest.antt.
-pub record LowestTerms (a b p q : ℕ) : Type 0 where
-  pub exact : p * b ≡ a * q
-  pub lowest : (d : ℕ) → d ∣ p → d ∣ q → d ≡ 1
+-- the two numbers of l are numerator and denominator of a / b, and no number but 1 divides both
+pub record LowestTerms (a b : ℕ) (l : List ℕ) : Type 0 where
+  pub numerator : ℕ
+  pub denominator : ℕ
+  pub shown : l ≡ numerator ∷ denominator ∷ []
+  pub exact : numerator * b ≡ a * denominator
+  pub lowest : (d : ℕ) → d ∣ numerator → d ∣ denominator → d ≡ 1
+
+-- Proved in proofs/Lowest.antt.
+abbrev pub FractionIsLowest : Type 0
+FractionIsLowest = (a b : ℕ) → 0 < b → LowestTerms a b (fraction a b)

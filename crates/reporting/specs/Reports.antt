@@ -3,6 +3,7 @@ use Prim.Native.String.{String}
 use mathlib.Core.Path.{_≡_, refl}
 use mathlib.Core.List.{List, [], _∷_, _++_, map}
 use Prim.Native.Nat.{ℕ}
+use lib.Dec.{lit<}
 use Rattle.lists.specs.Counted.{upTo, allBelow, allIn, elem, above, ascending}
 use Rattle.counts.specs.Counts.{leastBits, ceilLog2}
 use Rattle.context.specs.Map.{cell, lineCell}
@@ -19,6 +20,7 @@ use Rattle.text.specs.Text.{headerAt, headerFault, placesOf, isBody, textNumber
 use Rattle.text.specs.Worked.{bytes, lines}
 use Rattle.blocks.specs.Block.{listedBlock, blockOf}
 use Rattle.reporting.specs.Fraction.{gcdBy, fraction}
+use Rattle.reporting.specs.Follow.{Whole}
 use Rattle.reporting.specs.Report.{blocksOf, blockLine, blockLines, total, pageOf, lastLine, report}
 
 -- document 01's palette, with other colours and another last index
@@ -108,3 +110,12 @@ unfolding reports block lines bytes report blocksOf blockLine blockLines total p
     literalWords moreWords stepWords stepBits cutBits largestStep leastBits ceilLog2 mapWords orientWords upTo lineWords
     rowContext sentCells rankedWord cellWord cell around byThree choose rankOf orderOf place others elem
 reports-hold = refl
+
+-- document 01's palette is the text of one palette, with nothing behind its last row
+pub good-whole : Whole (lines good)
+unfolding block lines bytes listedBlock blockOf textNumber headerAt readHeader headerFault placesOf isBody cacheAt paletteAt
+    isDigit column columns fieldAt isLine lineNumbers areRows rowNumbers sidesOk depthOk colorsOk orientOk cacheOk countsOk
+    lineOk mapOk refusal levelsOk allIn allBelow above ascending lineCell word rawBits rawWidth callList colorWords cacheWords
+    untaken remove literalWords moreWords stepWords stepBits cutBits largestStep leastBits ceilLog2 mapWords orientWords upTo
+    lineWords rowContext sentCells rankedWord cellWord cell around byThree choose rankOf orderOf place others elem
+good-whole = record { some = lit< tt; taken = refl }

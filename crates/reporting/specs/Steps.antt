@@ -42,8 +42,8 @@ pub record Steps (s : List ℕ) (p : Page) (before after : List ℕ) (r : Steppe
   pub count : r .count ≡ length (printedOf p s)
   pub printed : after ≡ written before 0 (printedOf p s)
 
--- a page of up to 10,000 lines: every number on it has at most 8 digits
-pub record Small (p : Page) : Type 0 where
+-- a page of up to 10,000 lines, and what its totals come to at most: 8 digits are enough for all of them
+pub record Fits (p : Page) : Type 0 where
   pub lines : p .lines ≤ 10000
   pub calls : p .calls ≤ 4234 * p .lines
   pub cells : p .cells ≤ 4096 * p .lines

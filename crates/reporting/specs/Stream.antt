@@ -10,9 +10,9 @@ use Rattle.reporting.specs.declared.Page.{Page}
 use Rattle.reporting.specs.Report.{report}
 use Rattle.reporting.specs.Steps.{blank, takenOf, pageAfter, printedOf}
 
--- u before the program and v not yet read: as much as a palette can take and a byte more, or all that is left
+-- u before the program and v not yet read: as much as a palette can take, or all that is left
 abbrev pub Enough : List ℕ → List ℕ → Type 0
-Enough u v = (33973 ≤ length u) ⊎ (v ≡ [])
+Enough u v = (33972 ≤ length u) ⊎ (v ≡ [])
 
 -- the program's loop: before a step so many bytes of v are read behind u, then the step takes what it takes; what it prints, in all
 unfoldable pub run : (Page → List ℕ → List ℕ → ℕ) → ℕ → Page → List ℕ → List ℕ → List ℕ
@@ -31,4 +31,4 @@ StepsReport =
 
 -- the program's own reads: where there is not enough, what its window of `room` bytes still holds
 unfoldable pub filling : ℕ → Page → List ℕ → List ℕ → ℕ
-filling room p u v = cond (leb 33973 (length u)) 0 (room - length u)
+filling room p u v = cond (leb 33972 (length u)) 0 (room - length u)

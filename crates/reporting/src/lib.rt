@@ -10,7 +10,7 @@ ghost use Rattle.printing.specs.Printing.{field};
 ghost use Rattle.blocks.specs.Block.{Few};
 ghost use Rattle.reporting.specs.Fraction.{gcd, fraction};
 ghost use Rattle.reporting.specs.Report.{blockLine, lastLine};
-ghost use Rattle.reporting.specs.Steps.{blank, with, nextBlock, Steps, Small};
+ghost use Rattle.reporting.specs.Steps.{blank, with, nextBlock, Steps, Fits};
 
 // How many block lines were printed, and their totals.
 pub struct Page {
@@ -45,8 +45,8 @@ pub fn blank_page() -> Page
 
 // The page with one block more.
 fn add(p: Page, b: Block) -> Page
-    requires { ⌜ Small p × (p .lines ≤ 9999) × Few b ⌝ }
-    ensures { λ r. ⌜ (r ≡ with p b) × Small r ⌝ }
+    requires { ⌜ Fits p × (p .lines ≤ 9999) × Few b ⌝ }
+    ensures { λ r. ⌜ (r ≡ with p b) × Fits r ⌝ }
 {
     Page {
         lines: p.lines + 1,
@@ -139,9 +139,9 @@ fn print_last(out: &mut [u8], at: usize, p: Page) -> usize
 
 // A step on a text that is not empty: the last line follows where the reading ends.
 fn step_block(s: &[u8], p: Page, out: &mut [u8]) -> Stepped
-    requires { ⌜ Small p × (p .lines ≤ 9999) × (90 ≤ length (now out)) × (0 < length (now s)) ⌝ }
+    requires { ⌜ Fits p × (p .lines ≤ 9999) × (90 ≤ length (now out)) × (0 < length (now s)) ⌝ }
     ensures { λ r. ⌜ Steps (now (s .entry)) p (now (out .entry)) (now (out .exit)) r ⌝ }
-    ensures { λ r. ⌜ Small (r .page) × (r .taken ≤ length (now (s .entry))) × (r .count ≤ 90) ⌝ }
+    ensures { λ r. ⌜ Fits (r .page) × (r .taken ≤ length (now (s .entry))) × (r .count ≤ 90) ⌝ }
 {
     let b = next_block(s, p);
     let taken = b.taken;
@@ -160,9 +160,9 @@ fn step_block(s: &[u8], p: Page, out: &mut [u8]) -> Stepped
 
 // One step of the program, over what it has before it. Prints from the front of `out`.
 pub fn step(s: &[u8], p: Page, out: &mut [u8]) -> Stepped
-    requires { ⌜ Small p × (p .lines ≤ 9999) × (90 ≤ length (now out)) ⌝ }
+    requires { ⌜ Fits p × (p .lines ≤ 9999) × (90 ≤ length (now out)) ⌝ }
     ensures { λ r. ⌜ Steps (now (s .entry)) p (now (out .entry)) (now (out .exit)) r ⌝ }
-    ensures { λ r. ⌜ Small (r .page) × (r .taken ≤ length (now (s .entry))) × (r .count ≤ 90) ⌝ }
+    ensures { λ r. ⌜ Fits (r .page) × (r .taken ≤ length (now (s .entry))) × (r .count ≤ 90) ⌝ }
 {
     if s.len() == 0 {
         let count = print_last(out, 0, p);

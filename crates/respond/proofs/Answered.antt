@@ -20,17 +20,17 @@ use Rattle.blocks.specs.declared.Block.{Block}
 use Rattle.blocks.specs.Block.{blockOf, wordsOf}
 use Rattle.blocks.proofs.Listed.{listed-number, listed-taken}
 use Rattle.blocks.proofs.Read.{block-refused, block-listed, calls-told}
-use Rattle.respond.specs.Number.{numberOf}
+use Rattle.respond.specs.Number.{answerNumber}
 
 -- a text's number is 0 only where the block's is
-zero-by : (b : Block) (long : ℕ) (t : Bool) → eqb (b .taken) 0 || eqb (b .taken) long ≡ t → numberOf b long ≡ 0 → b .number ≡ 0
-unfolding numberOf
+zero-by : (b : Block) (long : ℕ) (t : Bool) → eqb (b .taken) 0 || eqb (b .taken) long ≡ t → answerNumber b long ≡ 0 → b .number ≡ 0
+unfolding answerNumber
 zero-by b long true e z = rw e at z
 zero-by b long false e z = let no : _≡_ {A = ℕ} 17 0 = rw e at z in absurd (omega (arith, no))
 
 module _ (s : List ℕ) where
   abbrev number : ℕ
-  number = numberOf (blockOf s) (length s)
+  number = answerNumber (blockOf s) (length s)
 
   -- a list for 0, else the refusal
   abbrev told : ℕ → List ℕ
@@ -53,7 +53,7 @@ module _ (s : List ℕ) where
     ends-late e = omega arith
 
     number-is : number ≡ cond (eqb end (length s)) fault 17
-    unfolding numberOf headerAt
+    unfolding answerNumber headerAt
     number-is =
         let block = block-listed s h (read-whole s 0 z) refl in
         let cache = cacheAt s 0 h in
@@ -77,7 +77,7 @@ module _ (s : List ℕ) where
   -- ---- the answer
 
   answer-by : (t : Bool) → eqb (textNumber s 0) 0 ≡ t → answer s ≡ told number
-  unfolding answer numberOf
+  unfolding answer answerNumber
   answer-by true e =
       let z = eqb-true (textNumber s 0) 0 e in
       rw (e, number-is z) (in-form-by z (eqb (end z) (length s)) refl)
@@ -85,17 +85,17 @@ module _ (s : List ℕ) where
       let n = eqb-false (textNumber s 0) 0 e in
       let k = number-read s 0 in
       let block = block-refused s (readHeader s 0) refl (λ z. n (sym k ∙ z)) in
-      let is : number ≡ textNumber s 0 = ap (λ (b : Block). numberOf b (length s)) (sym block) ∙ k in
+      let is : number ≡ textNumber s 0 = ap (λ (b : Block). answerNumber b (length s)) (sym block) ∙ k in
       rw (e, is, e) refl
 
-  pub answer-is : answer s ≡ told number
+  answer-is : answer s ≡ told number
   answer-is = answer-by (eqb (textNumber s 0) 0) refl
 
   -- ---- from what `take_block` answered
 
-  module _ (b : Block) (e : b ≡ blockOf s) (k : ℕ) (is : k ≡ numberOf b (length s)) where
+  module _ (b : Block) (e : b ≡ blockOf s) (k : ℕ) (is : k ≡ answerNumber b (length s)) where
     k-is : k ≡ number
-    k-is = is ∙ ap (λ (x : Block). numberOf x (length s)) e
+    k-is = is ∙ ap (λ (x : Block). answerNumber x (length s)) e
 
     pub answer-refused : (k ≡ 0 → ⊥) → refused k ≡ answer s
     answer-refused n = rw (answer-is, ← k-is) (sym (simp (ne-eqb _ _ n)))

@@ -5,5 +5,5 @@ use lib.Dec.{eqb}
 use Rattle.blocks.specs.declared.Block.{Block}
 
 -- the block's own number, and 17 for text after the last row
-unfoldable pub numberOf : Block → ℕ → ℕ
-numberOf b long = cond (eqb (b .taken) 0 || eqb (b .taken) long) (b .number) 17
+unfoldable pub answerNumber : Block → ℕ → ℕ
+answerNumber b long = cond (eqb (b .taken) 0 || eqb (b .taken) long) (b .number) 17

@@ -5,11 +5,11 @@ ghost use Prim.Native.Nat.{_≤_};
 ghost use lib.ListN.{length};
 ghost use Rattle.lists.specs.Written.{written};
 ghost use Rattle.text.specs.Answer.{answer};
-ghost use Rattle.respond.specs.Number.{numberOf};
+ghost use Rattle.respond.specs.Number.{answerNumber};
 
 // The number of a text that is `long` bytes: here text after the last row is 17.
 fn number_of(b: Block, long: usize) -> u32
-    ensures { λ r. ⌜ r ≡ numberOf b long ⌝ }
+    ensures { λ r. ⌜ r ≡ answerNumber b long ⌝ }
 {
     if (b.taken == 0) | (b.taken == long) {
         return b.number;

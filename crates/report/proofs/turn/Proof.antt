@@ -1,5 +1,7 @@
 -- What is lent to the step is what is before the program. Assumes nothing but what io's functions say.
+use native.Mathlib.Omega.{arith}
 use borrow.Author.Needs.{needs}
+use mathlib.Core.Path.{refl}
 use denote.Ref.{now}
 use Rattle.report.proofs.Turns.{turn-whole}
 use Rattle.report.proofs.turn.Statement.{statement}
@@ -38,8 +40,8 @@ returns c =
     let start = held .before .before .before .before .args in
     let s = stepped .step in
     let r = held .hold in (
-      turn-whole (r .result) (r .last .0) (r .ensures .inside) (start .w) (start .p) (now (start .buf)) (now (start .out)) _ (r .ensures)
-          (s .result) (s .ensures .0) (s .ensures .1 .1),
+      turn-whole (start .w) (start .p) (now (start .buf)) (now (start .out)) _ _ (r .result) (r .last .0) (r .ensures) (s .result) (s .ensures .0)
+          (s .ensures .1 .1) (omega arith) _ refl refl refl refl refl refl,
       (s .ensures .1 .0, s .ensures .1 .2),
     )
 

@@ -1,49 +1,68 @@
--- Each turn but the last adds a line. Assumes nothing but what io's functions say.
+-- Each turn but the last adds a line, and the last is the 10,000th at the latest. Assumes nothing but what io's functions say.
 use native.Mathlib.Omega.{arith}
 use borrow.Author.Needs.{needs}
-use Prim.Native.Nat.{_+_, _-_}
+use Prim.Native.Nat.{ℕ, _-_, _≤_}
 use mathlib.Core.Path.{_≡_, refl, sym, ap, _∙_, subst}
+use mathlib.Core.Bool.{Bool, false, _||_, true≢false}
+use lib.Dec.{eqb}
 use lib.ListN.{length}
 use lib.Seq.{length-take-le}
-use Rattle.window.specs.Window.{Inside}
+use borrow.Author.Tests.{eq-eqb}
+use denote.Ref.{now}
+use Rattle.window.specs.declared.Window.{Window}
+use Rattle.window.specs.Window.{unread, Inside}
 use Rattle.reporting.specs.declared.Page.{Page}
-use Rattle.reporting.specs.Steps.{blank, Small}
-use Rattle.reporting.proofs.Stream.{lines-after}
+use Rattle.reporting.specs.Steps.{blank, Fits}
+use Rattle.report.proofs.Turns.{page-next}
 use Rattle.report.proofs.walk.Statement.{statement}
 use Rattle.report.proofs.walk.Tie as tie
 
 abbrev Inv-loop : tie.InvT-loop
-Inv-loop buf₀ out₀ w₀ page₀ buf out w page = Inside w buf × (length buf ≡ length buf₀) × (length out ≡ 90) × Small page
+Inv-loop buf₀ out₀ w₀ page₀ buf out w page =
+    Inside w buf × (length buf ≡ length buf₀) × (length out ≡ 90) × Fits page × (page .lines ≤ 9999)
 
 abbrev μ-loop : tie.MeasureT-loop
-μ-loop buf₀ out₀ w₀ page₀ buf out w page = 10000 - page .lines
+μ-loop buf₀ out₀ w₀ page₀ buf out w page = 9999 - page .lines
+
+unread-input-requires : tie.Need-unread-input-requires Inv-loop μ-loop
+unread-input-requires c κs = search needs
 
 blank-page-requires : tie.Need-blank-page-requires Inv-loop μ-loop
 blank-page-requires c κs = search needs
 
 loop-holds : tie.Need-loop-holds Inv-loop μ-loop
 loop-holds c =
-    let none : Small blank = record { lines = omega arith; calls = omega arith; cells = omega arith; raw = omega arith } in
-    (record { order = omega arith; end = omega arith }, refl, refl, subst (λ (p : Page). Small p) (sym (c .blank-page .ensures)) none)
+    let buf = c .before .before .before .args .buf in
+    let nothing : Inside unread (now buf) = record { order = omega arith; end = omega arith } in
+    let none : Fits blank = record { lines = omega arith; calls = omega arith; cells = omega arith; raw = omega arith } in
+    let page = c .blank-page .ensures in (
+      subst (λ (w : Window). Inside w (now buf)) (sym (c .before .unread-input .ensures)) nothing,
+      refl,
+      refl,
+      subst (λ (p : Page). Fits p) (sym page) none,
+      omega (arith, ap (λ (p : Page). p .lines) page),
+    )
 
 slice-aggregate-turn : tie.Need-slice-aggregate-turn Inv-loop μ-loop
-slice-aggregate-turn c = sym (c .before .before .before .before .loop .inv .2)
+slice-aggregate-turn c = sym (c .before .before .loop .inv .2)
 
 turn-requires : tie.Need-turn-requires Inv-loop μ-loop
 turn-requires c κs =
-    let entered = c .before .before .before .before in
+    let entered = c .before .before in
     let l = entered .loop .inv in
-    (l .0, l .1 ∙ entered .before .before .before .pre, l .3, omega (arith, c .before .before .if1 .taken), omega (arith, l .2))
+    (l .0, l .1 ∙ entered .before .before .before .before .pre, l .3, l .4, omega (arith, l .2))
 
 array-share-prefix-out : tie.Need-array-share-prefix-out Inv-loop μ-loop
 array-share-prefix-out c =
-    let r = c .before .before .before .turn in
-    omega (arith, r .ensures .1 .1, r .kept .1 .1 .1 .0, c .before .before .before .before .before .before .before .before .loop .inv .2)
+    let turned = c .before .before .before in
+    let r = turned .turn in
+    omega (arith, r .ensures .1 .1, r .kept .1 .1 .1 .0, turned .before .before .before .loop .inv .2)
 
 slice-aggregate-write-all : tie.Need-slice-aggregate-write-all Inv-loop μ-loop
 slice-aggregate-write-all c =
-    let r = c .before .before .before .before .turn in
-    let long = c .before .before .before .before .before .before .before .before .before .loop .inv .2 in
+    let turned = c .before .before .before .before in
+    let r = turned .turn in
+    let long = turned .before .before .before .loop .inv .2 in
     sym (length-take-le _ (r .last .1 .1 .1 .0) (omega (arith, r .ensures .1 .1, r .kept .1 .1 .1 .0, long)))
 
 write-all-requires : tie.Need-write-all-requires Inv-loop μ-loop
@@ -52,31 +71,30 @@ write-all-requires c κs = search needs
 same-length : tie.Need-same-length Inv-loop μ-loop
 same-length c =
     let turned = c .before .before .before .before .before .before .before in
-    turned .turn .kept .0 ∙ turned .before .before .before .before .before .loop .inv .1
+    turned .turn .kept .0 ∙ turned .before .before .before .loop .inv .1
 
 returns : tie.Need-returns Inv-loop μ-loop
 returns c = search needs
 
+-- past the test the turn took something
+going : (k : ℕ) (b : Bool) → eqb k 0 || b ≡ false → k ≡ 0 → ⊥
+going k b e z = true≢false (sym (simp (eq-eqb k 0 z)) ∙ e)
+
 loop-less : tie.Need-loop-less Inv-loop μ-loop
 loop-less c =
     let turned = c .before .before .before .before .before .before .before .before .before in
-    let s = turned .turn .ensures .0 .steps in
-    let going = c .before .before .if2 .left in
-    let more = ap (λ (p : Page). p .lines) (s .page) ∙ lines-after _ _ (λ z. going (s .taken ∙ z)) in
-    omega (arith, more, turned .before .before .before .if1 .taken)
+    let r = turned .turn in
+    let l = turned .before .before .before .loop .inv in
+    let n = page-next _ _ _ _ _ (r .ensures .0 .steps) (l .4) (going _ _ (c .before .before .if1 .left)) in
+    omega (arith, n .0, n .1)
 
 loop-again : tie.Need-loop-again Inv-loop μ-loop
 loop-again c =
     let turned = c .before .before .before .before .before .before .before .before .before in
-    let l = turned .before .before .before .before .before .loop .inv in
     let r = turned .turn in
-    (r .ensures .0 .inside, r .kept .0 ∙ l .1, r .kept .1 .1 .1 .0 ∙ l .2, r .ensures .1 .0)
-
-same-length-2 : tie.Need-same-length-2 Inv-loop μ-loop
-same-length-2 c = c .before .before .loop .inv .1
-
-returns-2 : tie.Need-returns-2 Inv-loop μ-loop
-returns-2 c = search needs
+    let l = turned .before .before .before .loop .inv in
+    let n = page-next _ _ _ _ _ (r .ensures .0 .steps) (l .4) (going _ _ (c .before .before .if1 .left)) in
+    (r .ensures .0 .inside, r .kept .0 ∙ l .1, r .kept .1 .1 .1 .0 ∙ l .2, r .ensures .1 .0, n .1)
 
 pub walk-spec : {M : Type 1} → statement M
 walk-spec =
@@ -84,6 +102,7 @@ walk-spec =
     (tie.spec
     Inv-loop
     μ-loop
+    unread-input-requires
     blank-page-requires
     loop-holds
     slice-aggregate-turn
@@ -94,6 +113,4 @@ walk-spec =
     same-length
     returns
     loop-less
-    loop-again
-    same-length-2
-    returns-2)
+    loop-again)

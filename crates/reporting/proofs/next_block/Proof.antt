@@ -4,7 +4,7 @@ use denote.Ref.{now}
 use Rattle.blocks.specs.declared.Block.{Block}
 use Rattle.blocks.specs.Block.{Few}
 use Rattle.blocks.proofs.Few.{refused-few}
-use Rattle.reporting.proofs.Lines.{one-too-many, front-block}
+use Rattle.reporting.proofs.Lines.{one-too-many, later-block}
 use Rattle.reporting.proofs.next_block.Statement.{statement}
 use Rattle.reporting.proofs.next_block.Tie as tie
 
@@ -29,7 +29,7 @@ returns-2 : tie.Need-returns-2
 returns-2 c =
     let start = c .before .before .before .before .before .before .args in
     let b = c .before .take-block .ensures .0 in
-    (b .0 ∙ front-block (start .p) (now (start .s)) (c .before .before .before .if1 .left), b .1)
+    (b .0 ∙ later-block (start .p) (now (start .s)) (c .before .before .before .if1 .left), b .1)
 
 pub next-block-spec : {M : Type 1} → statement M
 next-block-spec =
