@@ -19,7 +19,7 @@ for crate in lists counts; do
     echo "logic=proved functions=1"
     echo "rt: $crate proved (1 s)" >&2
 done
-if [ -n "$RT_EDITS" ]; then sleep 0.02; echo edited >crates/lists/src/lib.rt; sleep 0.02; fi
+if [ -n "$RT_EDITS" ]; then sleep 0.02; echo edited >crates/lists/src/lib; sleep 0.02; fi
 if [ -n "$RT_FAILS" ]; then echo "crate station: not proved"; exit 1; fi
 mkdir -p target/staticlib
 if [ -n "$RT_DIES" ]; then echo half >target/staticlib/libstation.a; kill -9 $$; fi
@@ -53,7 +53,7 @@ impl Repository {
                 "top/crates.txt",
                 "lists:\ncounts: lists\nstation: lists counts\nworked: lists\n",
             ),
-            ("top/crates/lists/src/lib.rt", ""),
+            ("top/crates/lists/src/lib", ""),
             ("top/station/src/lib.rs", ""),
             ("top/station/Cargo.toml", ""),
             ("top/station/build.rs", ""),
@@ -141,7 +141,7 @@ fn a_change_in_a_crate_builds_the_library_again() {
     let repository = Repository::new("script-changed");
     let (mut before, ..) = repository.run("top/sheet");
     let changes: [&dyn Fn(); 4] = [
-        &|| repository.write("top/crates/lists/src/lib.rt"),
+        &|| repository.write("top/crates/lists/src/lib"),
         &|| repository.write("top/crates/lists/src/new.rt"),
         &|| fs::remove_file(repository.folder.join("top/crates/lists/src/new.rt")).unwrap(),
         &|| repository.write("top/crates.txt"),
@@ -171,7 +171,7 @@ fn a_change_while_it_is_built_is_not_lost() {
         let path = repository.folder.join("top").join(path);
         fs::metadata(path).unwrap().modified().unwrap()
     };
-    assert!(time("target/staticlib/libstation.a") > time("crates/lists/src/lib.rt"));
+    assert!(time("target/staticlib/libstation.a") > time("crates/lists/src/lib"));
     let (.., calls) = repository.run("top/sheet");
     assert_eq!(calls, BOTH);
     let (.., calls) = repository.run("top/sheet");
@@ -229,7 +229,7 @@ fn failed(output: Output) -> String {
 fn a_library_that_cannot_be_built_is_not_run() {
     let repository = Repository::new("script-fails");
     repository.run("top/sheet");
-    repository.write("top/crates/lists/src/lib.rt");
+    repository.write("top/crates/lists/src/lib");
     for _ in 0..2 {
         let output = repository
             .command("top/sheet")
