@@ -9,6 +9,7 @@ use lib.ListN.{length, take, drop}
 use lib.Seq.{take-append-seam}
 use borrow.Author.Tests.{eqb-true, eqb-false, eq-eqb, ne-eqb}
 use Rattle.lists.specs.Written.{front}
+use Rattle.lists.proofs.Choice.{or-true}
 use Rattle.printing.specs.Printing.{listed, refused}
 use Rattle.accept.specs.Accepted.{refusal}
 use Rattle.text.specs.declared.Header.{Header}
@@ -90,6 +91,11 @@ module _ (s : List ℕ) where
 
   answer-is : answer s ≡ told number
   answer-is = answer-by (eqb (textNumber s 0) 0) refl
+
+  -- where nothing is left behind the block, the listing program says what the block report's line says
+  pub answer-whole : blockOf s .taken ≡ length s → answer s ≡ told (blockOf s .number)
+  unfolding answerNumber
+  answer-whole e = answer-is ∙ rw (eq-eqb (blockOf s .taken) (length s) e, or-true (eqb (blockOf s .taken) 0)) refl
 
   -- ---- from what `take_block` answered
 
