@@ -13,19 +13,17 @@ use lib.Seq.{getD-set-same, getD-set-other}
 use borrow.Author.Tests.{eq-eqb, ne-eqb, eqb-true, eqb-false}
 use Rattle.lists.specs.Counted.{upTo, bit}
 use Rattle.lists.specs.Written.{written}
+use Rattle.lists.proofs.Counted.{bit-most}
 use Rattle.lists.proofs.Written.{written-more, length-written}
 use Rattle.groups.specs.declared.Histogram.{Histogram}
 use Rattle.groups.specs.Histogram.{occurs, perLevel, places, gathered}
 
 -- ---- counting
-bit-le : (t : Bool) → bit t ≤ 1
-bit-le true = omega arith
-bit-le false = omega arith
 
 pub occurs-le : (xs : List ℕ) (v : ℕ) → occurs xs v ≤ length xs
 unfolding occurs
 occurs-le [] v = zero-le
-occurs-le (x ∷ xs) v = omega (arith, bit-le (eqb x v), occurs-le xs v)
+occurs-le (x ∷ xs) v = omega (arith, bit-most (eqb x v), occurs-le xs v)
 
 -- one cell of the level x more
 pub counted : (counts : List ℕ) (x v : ℕ) → x < length counts

@@ -8,6 +8,7 @@ use lib.ListN.{length, getD}
 use borrow.Author.Tests.{ne-eqb}
 use Rattle.lists.specs.Counted.{upTo, bit}
 use Rattle.lists.proofs.Choice.{cond-same}
+use Rattle.lists.proofs.Counted.{bit-most}
 use Rattle.counts.specs.Counts.{ceilLog2, orientSent}
 use Rattle.context.specs.Map.{cell, rowAt, colAt, linesOf, lengthOf}
 use Rattle.context.specs.Order.{byThree, around, rankOf}
@@ -39,10 +40,6 @@ raw-first f (suc (suc n)) some none =
     let before : rawWidth (upTo f (suc n)) ≡ rawWidth (f 0) =
     raw-first f (suc n) (omega arith) (λ i later h. none i later (omega arith)) in
     omega (arith, raw-append (upTo f (suc n)) (f (suc n)), before, none (suc n) (omega arith) (omega arith))
-
-pub bit-small : (b : Bool) → bit b < 65536
-bit-small true = omega arith
-bit-small false = omega arith
 
 -- row and column of a place that is not the first
 not-first : (t : Bool) (l a : ℕ) → 0 < l + a → 0 < rowAt t l a + colAt t l a
@@ -119,7 +116,7 @@ unfolding orientWords rawWidth
 raw-orient w h t = go (orientSent w h)
   where
     go : (sent : Bool) → rawWidth (cond sent (word 1 1 (bit t) ∷ []) []) ≡ bit sent
-    go true = omega (arith, raw-word 1 1 (bit t) (omega arith) (bit-small t))
+    go true = omega (arith, raw-word 1 1 (bit t) (omega arith) (omega (arith, bit-most t)))
     go false = refl
 
 pub raw-map : (map : List ℕ) (w h n : ℕ) (t : Bool) (flags : List ℕ)

@@ -1,6 +1,5 @@
 -- A list's raw width is small: a bound that is easily had, not the least one. Assumes nothing.
 use Prim.Native.Nat.{ℕ, _+_, _*_, _/_, _%_, _^_, _≤_, _-_}
-use mathlib.Core.Bool.{Bool, true, false}
 use mathlib.Core.List.{List, [], _∷_}
 use native.Mathlib.Omega.{arith}
 use lib.Dec.{eqb}
@@ -8,6 +7,7 @@ use lib.ListN.{length}
 use borrow.Author.Tests.{leb-true}
 use Rattle.lists.specs.Counted.{bit, elem}
 use Rattle.lists.proofs.Choice.{either-way}
+use Rattle.lists.proofs.Counted.{bit-most}
 use Rattle.counts.specs.Counts.{orientSent}
 use Rattle.counts.proofs.Log.{ceil-least}
 use Rattle.context.specs.Map.{linesOf, lengthOf}
@@ -23,7 +23,7 @@ use Rattle.emit.specs.Colors.{remove, cacheWords, untaken, colorWords}
 use Rattle.emit.specs.Map.{LinesInside, mapWords}
 use Rattle.emit.proofs.Untaken.{untaken-few}
 use Rattle.listing.specs.Listing.{callList}
-use Rattle.listing.proofs.Raw.{raw-append, bit-small, raw-map}
+use Rattle.listing.proofs.Raw.{raw-append, raw-map}
 
 bits-most : (c : ℕ) → rawBits c ≤ 255
 unfolding rawBits
@@ -44,7 +44,8 @@ unfolding cacheWords rawWidth
 cache-raw [] cs = omega arith
 cache-raw (e ∷ es) [] = omega arith
 cache-raw (e ∷ es) (c ∷ cs) =
-    omega (arith, raw-word 1 1 (bit (elem e (c ∷ cs))) (omega arith) (bit-small (elem e (c ∷ cs))), cache-raw es (remove e (c ∷ cs)))
+    let taken = elem e (c ∷ cs) in
+    omega (arith, raw-word 1 1 (bit taken) (omega arith) (omega (arith, bit-most taken)), cache-raw es (remove e (c ∷ cs)))
 
 colors-raw : (bd : ℕ) (cache cs : List ℕ) → rawWidth (colorWords bd cache cs) ≤ length cache + 255 * (length cs + 2)
 unfolding colorWords rawWidth
@@ -59,10 +60,6 @@ colors-raw bd cache cs =
       length-literals bd (untaken cache cs),
       untaken-few cache cs,
     )
-
-bit-most : (b : Bool) → bit b ≤ 1
-bit-most true = omega arith
-bit-most false = omega arith
 
 pub raw-few : (w h bd : ℕ) (cache : List ℕ) (p : Palette) → Accepted w h bd cache p → rawWidth (callList w h bd cache p) ≤ 2618
 unfolding callList cacheOk

@@ -47,6 +47,10 @@ allIn-at f [] e i h = absurd (omega arith)
 allIn-at f (x ∷ xs) e zero h = and-l (f x) (allIn f xs) e
 allIn-at f (x ∷ xs) e (suc i) h = allIn-at f xs (and-r (f x) (allIn f xs) e) i (omega arith)
 
+pub bit-most : (b : Bool) → bit b ≤ 1
+bit-most true = omega arith
+bit-most false = omega arith
+
 pub bit-injective : (a b : Bool) → bit a ≡ bit b → a ≡ b
 bit-injective true true e = refl
 bit-injective true false e = absurd (omega arith)

@@ -11,6 +11,7 @@ use lib.Ieee.{Float, nan, inf, binary32, add, sub, mul, lt}
 use lib.Ieee.Back.{round-whole}
 use Rattle.lists.specs.Counted.{bit}
 use Rattle.lists.proofs.Choice.{either-way}
+use Rattle.lists.proofs.Counted.{bit-most}
 use Rattle.ieee.specs.Numbers.{nat}
 use Rattle.ieee.specs.Bounds.{Under}
 use Rattle.ieee.proofs.Compare.{under-finite}
@@ -108,11 +109,7 @@ module _ {samples costs : List Float} {b : Block} {room lineRoom : ℕ} (ready :
         (cost-under 1 (lit< tt)) (cost-under 0 (lit< tt))
         (cost-under size (omega (arith, has .1, centers-count ready is few k has)))
         (nat-within binary32 literal 98 literal-most (lit≤ tt) .0)
-        (nat-within binary32 orientation 1 (one (orientSent (b .width) (b .height))) (lit≤ tt) .0)
-      where
-        one : (t : Bool) → bit t ≤ 1
-        one true = lit≤ tt
-        one false = lit≤ tt
+        (nat-within binary32 orientation 1 (bit-most (orientSent (b .width) (b .height))) (lit≤ tt) .0)
 
     pub lb-under : Under (sizeOf costs b h k .lb) (2053 * 2 ^ 29)
     lb-under =
