@@ -1,2 +1,3 @@
 pub mod Palette
 pub mod Accepted
+pub mod Answer

@@ -1,4 +1,4 @@
-// Whether a palette is accepted: the numbers 1, 2 and 11 to 15, in that order.
+// Whether a palette is accepted: the numbers 1, 2 and 11 to 15, in that order; and the answer of search and reading.
 // Open functions answer for all arguments; inner ones require what the tests before them have shown.
 use context::Index;
 use context::Level;
@@ -11,7 +11,17 @@ ghost use Rattle.lists.specs.Counted.{within, allBelow, allIn};
 ghost use Rattle.context.specs.Map.{rowAt, colAt, linesOf, lengthOf, lineCell};
 ghost use Rattle.literals.specs.Literals.{levelsOk};
 ghost use Rattle.accept.specs.Palette.{firstColors, paletteOf};
+ghost use Rattle.accept.specs.Answer.{roomsOk, refusedBy};
 ghost use Rattle.accept.specs.Accepted.{sidesOk, colorsOk, orientOk, lineOk, refusal};
+
+// The answer: number 0 with the colours, their count, the orientation and the bit estimate, or a refusal with zeros.
+pub struct Palette {
+    pub number: u32,
+    pub n: usize,
+    pub colors: [u16; 8],
+    pub transposed: bool,
+    pub bits: f32,
+}
 
 pub fn within(low: usize, high: usize, x: usize) -> bool
     ensures { λ r. ⌜ r ≡ within low high x ⌝ }
@@ -29,6 +39,20 @@ pub fn sides_ok(width: usize, height: usize) -> bool
         return within(1, 64, height);
     }
     false
+}
+
+// Number 7: room for the cells, and for the flags of either orientation.
+pub fn rooms_ok(width: usize, height: usize, cells: usize, lines: usize) -> bool
+    requires { ⌜ (width ≤ 64) × (height ≤ 64) ⌝ }
+    ensures { λ r. ⌜ r ≡ roomsOk width height cells lines ⌝ }
+{
+    if cells < width * height {
+        return false;
+    }
+    if lines < width {
+        return false;
+    }
+    height <= lines
 }
 
 // Whether `level` is above `low` and not above `top`.
@@ -217,4 +241,17 @@ pub fn fault(
         return 15;
     }
     0
+}
+
+// A refusal: zeros beside its number.
+pub fn refuse(number: u32) -> Palette
+    ensures { λ r. ⌜ r ≡ refusedBy number ⌝ }
+{
+    Palette {
+        number,
+        n: 0,
+        colors: [0u16; 8],
+        transposed: false,
+        bits: 0.0,
+    }
 }

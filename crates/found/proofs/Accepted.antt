@@ -11,9 +11,8 @@ use Rattle.lists.proofs.Counted.{allBelow-of}
 use Rattle.accept.specs.Accepted.{lineOk, mapOk}
 use Rattle.context.specs.Map.{cell, lineCell, linesOf, lengthOf}
 use Rattle.near.specs.Near.{Below}
-use Rattle.map_search.specs.Lines.{scanOf, cellIn}
-use Rattle.map_search.specs.Sound.{Sound}
-use Rattle.map_search.proofs.Scans.{line-cell}
+use Rattle.scan.specs.Scan.{scanOf, cellIn, Sound}
+use Rattle.scan.proofs.Scans.{line-cell}
 use Rattle.search.proofs.Lengths.{lines-are}
 use Rattle.found.proofs.Lines.{line-same}
 use Rattle.found.proofs.Valid.{Valid}

@@ -14,10 +14,9 @@ use Rattle.groups.specs.Histogram.{IsHistogram}
 use Rattle.groups.specs.Groups.{centersOf, groupsOf}
 use Rattle.groups.proofs.Colors.{colors-take, centers-length}
 use Rattle.context.specs.Map.{linesOf}
-use Rattle.map_search.specs.Lines.{scanOf}
-use Rattle.map_search.specs.Sound.{Sound}
-use Rattle.map_search.specs.declared.Scan.{Scan}
-use Rattle.map_search.proofs.Scans.{scan-sound}
+use Rattle.scan.specs.Scan.{scanOf, Sound}
+use Rattle.scan.specs.declared.Scan.{Scan}
+use Rattle.scan.proofs.Scans.{scan-sound}
 use Rattle.literals.specs.Literals.{levelsOk}
 use Rattle.accept.specs.Palette.{Palette, firstColors, paletteOf}
 use Rattle.accept.specs.Accepted.{sidesOk, depthOk, colorsOk, orientOk, cacheOk, countsOk, Accepted}

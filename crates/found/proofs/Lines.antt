@@ -14,10 +14,9 @@ use borrow.Author.Tests.{eq-eqb}
 use Rattle.lists.specs.Counted.{allBelow}
 use Rattle.lists.proofs.Counted.{allBelow-of}
 use Rattle.accept.specs.Accepted.{lineOk}
-use Rattle.map_search.specs.Lines.{placeAt, cellIn, fill}
-use Rattle.map_search.specs.Sound.{Sound}
-use Rattle.map_search.specs.declared.Scan.{Scan}
-use Rattle.map_search.proofs.Fill.{length-fill, cells-apart}
+use Rattle.scan.specs.Scan.{placeAt, cellIn, fill, Sound}
+use Rattle.scan.specs.declared.Scan.{Scan}
+use Rattle.scan.proofs.Fill.{length-fill, cells-apart}
 
 all-same : (f g : ℕ → Bool) (n : ℕ) → ((a : ℕ) → a < n → f a ≡ g a) → allBelow f n ≡ allBelow g n
 unfolding allBelow

@@ -9,15 +9,16 @@ use lib.Seq.{take-at}
 use borrow.Author.Tests.{le-leb, eqb-true, eqb-false}
 use Rattle.lists.specs.Written.{front}
 use Rattle.context.specs.Map.{linesOf}
-use Rattle.map_search.specs.Lines.{scanOf}
+use Rattle.scan.specs.Scan.{scanOf}
 use Rattle.accept.specs.Palette.{Palette, paletteOf}
 use Rattle.accept.specs.Accepted.{Accepted}
 use Rattle.accept.proofs.Accepted.{zero-of-accepted}
 use Rattle.listing.specs.Listing.{callList, listNumber, Lists}
 use Rattle.listing.specs.declared.Listed.{Listed}
-use Rattle.search.specs.Search.{Standing, foundIn, searchNumber, paletteBy, refusedBy}
+use Rattle.accept.specs.Answer.{refusedBy}
+use Rattle.search.specs.Search.{Standing, foundIn, searchNumber, paletteBy}
 use Rattle.search.specs.declared.Best.{Best}
-use Rattle.search.specs.declared.Palette.{Palette as Answer}
+use Rattle.accept.specs.declared.Palette.{Palette as Answer}
 use Rattle.search.proofs.Lengths.{lines-are}
 use Rattle.search.proofs.Passed.{all-passed}
 use Rattle.search.proofs.Kept.{kept-cells, kept-flags}

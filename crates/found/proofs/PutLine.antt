@@ -8,11 +8,11 @@ use lib.Dec.{eqb}
 use lib.Ieee.{Float}
 use lib.ListN.{length}
 use Rattle.accept.specs.Accepted.{lineOk}
-use Rattle.map_search.specs.Lines.{cellIn, fill, rowCost, cellsOf, putLine}
-use Rattle.map_search.specs.Sound.{Sound}
-use Rattle.map_search.specs.declared.Scan.{Scan}
+use Rattle.scan.specs.Scan.{cellIn, fill, Sound}
+use Rattle.map_search.specs.Lines.{rowCost, cellsOf, putLine}
+use Rattle.scan.specs.declared.Scan.{Scan}
 use Rattle.map_search.specs.declared.Choice.{Choice}
-use Rattle.map_search.proofs.Fill.{fill-other}
+use Rattle.scan.proofs.Fill.{fill-other}
 use Rattle.map_search.proofs.LineCells.{cells-other}
 use Rattle.found.proofs.Lines.{constant-ok, copy-ok, fill-at}
 

@@ -12,9 +12,9 @@ use lib.Seq.{getD-set-same, getD-set-other}
 use Rattle.lists.proofs.Choice.{either-way}
 use Rattle.accept.specs.Accepted.{lineOk}
 use Rattle.near.specs.Near.{Below}
-use Rattle.map_search.specs.Lines.{cellIn, lineOf, Walk, Ended, next, reached, restOf, mapOf}
-use Rattle.map_search.specs.Sound.{Sound}
-use Rattle.map_search.specs.declared.Scan.{Scan}
+use Rattle.scan.specs.Scan.{cellIn, Sound}
+use Rattle.map_search.specs.Lines.{lineOf, Walk, Ended, next, reached, restOf, mapOf}
+use Rattle.scan.specs.declared.Scan.{Scan}
 use Rattle.map_search.specs.declared.Choice.{Choice}
 use Rattle.map_search.specs.declared.MapResult.the-variants.{Found, Beaten}
 use Rattle.map_search.proofs.LineChoice.{line-plain, line-flag}

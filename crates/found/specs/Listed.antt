@@ -12,7 +12,7 @@ use Rattle.listing.specs.Listing.{callList, Lists}
 use Rattle.listing.specs.declared.Listed.{Listed}
 use Rattle.sizes.specs.declared.Block.{Block}
 use Rattle.search.specs.Search.{Searches}
-use Rattle.search.specs.declared.Palette.{Palette as Answer}
+use Rattle.accept.specs.declared.Palette.{Palette as Answer}
 
 -- what search answered, with the cells and flags that it wrote: the first width × height, and one flag per line
 abbrev pub foundPalette : ℕ → ℕ → Answer → List ℕ → List ℕ → Palette

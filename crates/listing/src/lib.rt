@@ -109,18 +109,6 @@ fn emit_list(
     }
 }
 
-// Copies the first `count` words to the front.
-fn copy_words(from: &[u32], count: usize, to: &mut [u32])
-    requires { ⌜ (count ≤ length (now from)) × (count ≤ length (now to)) ⌝ }
-    ensures { λ r. ⌜ now (to .exit) ≡ written (now (to .entry)) 0 (take count (now (from .entry))) ⌝ }
-{
-    let mut i: usize = 0;
-    while i < count {
-        to[i] = from[i];
-        i += 1;
-    }
-}
-
 // The answer for a list that was made aside, so that no word of it is written where the room is too small.
 fn deliver(listed: Listed, aside: &[u32], words: &mut [u32]) -> Listed
     requires { ⌜ listed .count ≤ length (now aside) ⌝ }
@@ -131,7 +119,7 @@ fn deliver(listed: Listed, aside: &[u32], words: &mut [u32]) -> Listed
     let room = words.len();
     let count = listed.count;
     let kept = if room < count { 0 } else { count };
-    copy_words(aside, kept, words);
+    lists::copy_words(aside, kept, words);
     if room < count {
         return refused(16);
     }

@@ -19,11 +19,11 @@ use Rattle.cells.specs.Cell.{square, squaresOf, ratesOf}
 use Rattle.cells.proofs.UniformBits.{uniform-32}
 use Rattle.cells.proofs.Eight.{eight-at}
 use Rattle.cells.proofs.Ranked.{chosen-in}
-use Rattle.map_search.specs.declared.Scan.{Scan}
-use Rattle.map_search.specs.Lines.{Cells, placeAt, distLine, rowCost, ratesAt, cellAt, cellsOf}
-use Rattle.map_search.specs.Sound.{Sound}
+use Rattle.scan.specs.declared.Scan.{Scan}
+use Rattle.scan.specs.Scan.{placeAt, aroundIn, Sound}
+use Rattle.map_search.specs.Lines.{Cells, distLine, rowCost, ratesAt, cellAt, cellsOf}
 use Rattle.map_search.proofs.Sums.{more-within, square-bound}
-use Rattle.map_search.proofs.Neighbours.{aroundCell, context-small, order-in}
+use Rattle.map_search.proofs.Neighbours.{context-small, order-in}
 use Rattle.map_search.proofs.LineCells.{cells-below}
 
 -- what is known of the numbers of a search
@@ -71,7 +71,7 @@ module _ (samples costs colours : List Float) (n : ℕ) (lambda : Float) (s : Sc
     pub cell-rates-within : (a rank : ℕ) → rank < 8 → Within (getD (ratesAt samples costs colours n lambda s m l a) rank nan) 32
     cell-rates-within a rank under =
         let small = context-small m s l a n below (omega (arith, known .two)) (known .most) in
-        rates-within (aroundCell m s l a .ctx) rank (eqb (l + a) 0) small under
+        rates-within (aroundIn m s l a .ctx) rank (eqb (l + a) 0) small under
 
     cell-within : (a : ℕ) → a < s .len → Within (cellFound a .cost .dist) (2 ^ 26) × Within (cellFound a .cost .rate) 32
     unfolding cellAt
@@ -80,7 +80,7 @@ module _ (samples costs colours : List Float) (n : ℕ) (lambda : Float) (s : Sc
         let order = order-in m s l a n below some (known .most) in
         let dists = squaresOf (getD samples (placeAt s l a) nan) colours in
         let rates = ratesAt samples costs colours n lambda s m l a in
-        let chose = chosen-in dists rates lambda n (orderOf (aroundCell m s l a) n) some (order .0) (order .1) in
+        let chose = chosen-in dists rates lambda n (orderOf (aroundIn m s l a) n) some (order .0) (order .1) in
         (squares-within l a _ on inside (chose .0), cell-rates-within a _ (chose .1))
 
   abbrev cells : List ℕ → ℕ → Float → ℕ → Cells

@@ -10,7 +10,7 @@ use lib.Ieee.{Float}
 use Rattle.near.specs.Near.{Below}
 use Rattle.cells.specs.Cell.{eight, cheapest, totalOf, ratesOf}
 use Rattle.cells.proofs.Eight.{eight-at}
-use Rattle.map_search.specs.declared.Scan.{Scan}
+use Rattle.scan.specs.declared.Scan.{Scan}
 use Rattle.map_search.specs.declared.Choice.{Choice}
 use Rattle.map_search.specs.Lines.{distLine, rowCost, ratesAt, copiedBy, constant, constants}
 use Rattle.map_search.specs.Parts.{bestOf, constantBy, constantsBy}

@@ -15,11 +15,12 @@ use Rattle.near.specs.Near.{Below}
 use Rattle.cells.specs.declared.Pick.{Pick}
 use Rattle.cells.specs.Cell.{totalOf, cheapest, firstCheapest, squaresOf, pickAt, ranked, chosen}
 use Rattle.cells.proofs.Cheapest.{All, all-mono}
-use Rattle.map_search.specs.declared.Scan.{Scan}
+use Rattle.scan.specs.declared.Scan.{Scan}
 use Rattle.map_search.specs.declared.Choice.{Choice}
-use Rattle.map_search.specs.Lines.{placeAt, ratesAt, copied, constants, own, candidates, lineOf}
+use Rattle.scan.specs.Scan.{placeAt, aroundIn}
+use Rattle.map_search.specs.Lines.{ratesAt, copied, constants, own, candidates, lineOf}
 use Rattle.map_search.proofs.Sums.{rep-sum}
-use Rattle.map_search.proofs.Neighbours.{aroundCell, order-in}
+use Rattle.map_search.proofs.Neighbours.{order-in}
 use Rattle.map_search.proofs.CellBounds.{InRange, squares-within, cell-rates-within}
 use Rattle.map_search.proofs.LineBounds.{Bounded, candidates-bounded}
 
@@ -79,11 +80,11 @@ module _ (samples costs colours : List Float) (n : ℕ) (lambda : Float) (s : Sc
         (under-mono (mul binary32 lambda rate) (2 ^ 25) (2 ^ 26) (lit≤ tt) weighed) (rep-sum 2 26 (lit< tt) (lit≤ tt))
 
     pub cell-start : (x : Pick) → x .total ≡ inf false
-        → cheapest (λ (p : Pick). p .total) x (ranked dists rates lambda 0 (orderOf (aroundCell m s l a) n))
-        ≡ chosen dists rates lambda (orderOf (aroundCell m s l a) n)
+        → cheapest (λ (p : Pick). p .total) x (ranked dists rates lambda 0 (orderOf (aroundIn m s l a) n))
+        ≡ chosen dists rates lambda (orderOf (aroundIn m s l a) n)
     cell-start x e =
         let order = order-in m s l a n below (omega (arith, known .two)) (known .most) in
-        by-order (orderOf (aroundCell m s l a) n) (order .2) (order .0)
+        by-order (orderOf (aroundIn m s l a) n) (order .2) (order .0)
       where
         by-order : (is : List ℕ) → 0 < length is → All (λ i. i < n) is
             → cheapest (λ (p : Pick). p .total) x (ranked dists rates lambda 0 is) ≡ chosen dists rates lambda is

@@ -1,5 +1,3 @@
-pub mod Scans
-pub mod Fill
 pub mod Neighbours
 pub mod LineCells
 pub mod Constants

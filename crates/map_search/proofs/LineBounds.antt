@@ -16,10 +16,11 @@ use Rattle.context.specs.Order.{rankOf}
 use Rattle.near.specs.Near.{rankBy, Below}
 use Rattle.cells.specs.Cell.{totalOf}
 use Rattle.cells.proofs.Cheapest.{firstCheapest-holds, All, all-append}
-use Rattle.map_search.specs.declared.Scan.{Scan}
+use Rattle.scan.specs.declared.Scan.{Scan}
 use Rattle.map_search.specs.declared.Choice.{Choice}
-use Rattle.map_search.specs.Lines.{placeAt, cellIn, distLine, rowCost, ratesAt, copied, constant, constants, own, candidates, lineOf}
-use Rattle.map_search.proofs.Neighbours.{nearCell, aroundCell, near-usable, first-rank}
+use Rattle.scan.specs.Scan.{placeAt, cellIn, aroundIn}
+use Rattle.map_search.specs.Lines.{distLine, rowCost, ratesAt, copied, constant, constants, own, candidates, lineOf}
+use Rattle.map_search.proofs.Neighbours.{nearCell, near-usable, first-rank}
 use Rattle.map_search.proofs.CellBounds.{InRange, row-within, cell-rates-within, cells-within, dist-within}
 
 abbrev pub Bounded : Choice → Type 0
@@ -68,14 +69,14 @@ module _ (samples costs colours : List Float) (n : ℕ) (lambda : Float) (s : Sc
 
   -- the rate at the first cell
   abbrev firstRate : ℕ → Float
-  firstRate c = getD (ratesAt samples costs colours n lambda s m l 0) (rankOf (aroundCell m s l 0) n c) nan
+  firstRate c = getD (ratesAt samples costs colours n lambda s m l 0) (rankOf (aroundIn m s l 0) n c) nan
 
   first-rate-within : (c : ℕ) → c < n → Within (firstRate c) 32
   first-rate-within c under =
       let some : 0 < n = omega (arith, known .two) in
       let near = near-usable m s l 0 n below some (known .most) in
       let small = rank-small c (nearCell m s l 0 .first) (omega (arith, known .most)) (omega (arith, near .first, known .most)) in
-      cell-rates-within samples costs colours n lambda s known m l below on 0 (rankOf (aroundCell m s l 0) n c)
+      cell-rates-within samples costs colours n lambda s known m l below on 0 (rankOf (aroundIn m s l 0) n c)
       (rw (first-rank m s l n below some (known .most) c under) small)
 
   constant-bounded : (c : ℕ) → c < n → Bounded (constant samples costs colours n lambda s m l ctx c)

@@ -13,11 +13,11 @@ use Rattle.cells.specs.declared.Cost.{Cost}
 use Rattle.cells.specs.declared.Cell.{Cell}
 use Rattle.cells.specs.Cell.{plus}
 use Rattle.cells.proofs.Ranked.{chosen-in}
-use Rattle.map_search.specs.declared.Scan.{Scan}
-use Rattle.map_search.specs.Lines.{Cells, placeAt, cellIn, fill, cellAt, cellsOf}
-use Rattle.map_search.specs.Sound.{Sound}
-use Rattle.map_search.proofs.Fill.{below-set, lines-apart, fill-set, fill-same}
-use Rattle.map_search.proofs.Neighbours.{aroundCell, order-in}
+use Rattle.scan.specs.declared.Scan.{Scan}
+use Rattle.scan.specs.Scan.{placeAt, cellIn, fill, aroundIn, Sound}
+use Rattle.map_search.specs.Lines.{Cells, cellAt, cellsOf}
+use Rattle.scan.proofs.Fill.{below-set, lines-apart, fill-set, fill-same}
+use Rattle.map_search.proofs.Neighbours.{order-in}
 
 module _ (samples costs colours : List Float) (n : ℕ) (lambda : Float) (s : Scan) where
   -- the first k cells of line l; row is the flag's cost
@@ -30,7 +30,7 @@ module _ (samples costs colours : List Float) (n : ℕ) (lambda : Float) (s : Sc
     unfolding cellAt
     cell-under m l a below =
         let order = order-in m s l a n below some most in
-        chosen-in _ _ lambda n (orderOf (aroundCell m s l a) n) some (order .0) (order .1) .0
+        chosen-in _ _ lambda n (orderOf (aroundIn m s l a) n) some (order .0) (order .1) .0
 
     pub cells-below : (m : List ℕ) (l : ℕ) (row : Float) (k : ℕ) → Below m n → Below (cells m l row k .map) n
     unfolding cellsOf

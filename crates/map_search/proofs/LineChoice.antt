@@ -10,7 +10,7 @@ use borrow.Author.Tests.{eqb-false}
 use Rattle.cells.specs.declared.Cost.{Cost}
 use Rattle.cells.specs.Cell.{cheapest, firstCheapest, totalOf}
 use Rattle.cells.proofs.Cheapest.{cheapest-append, cheapest-twice, cheapest-holds, All}
-use Rattle.map_search.specs.declared.Scan.{Scan}
+use Rattle.scan.specs.declared.Scan.{Scan}
 use Rattle.map_search.specs.declared.Choice.{Choice}
 use Rattle.map_search.specs.Lines.{copied, constant, constants, own, candidates, lineOf}
 use Rattle.map_search.specs.Parts.{first, bestOf}

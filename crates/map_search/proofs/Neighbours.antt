@@ -7,13 +7,14 @@ use mathlib.Core.List.{List}
 use native.Mathlib.Omega.{arith}
 use lib.ListN.{length}
 use Rattle.context.specs.Map.{rowAt, colAt}
-use Rattle.context.specs.Order.{Around, byThree, around, orderOf, rankOf}
+use Rattle.context.specs.Order.{orderOf, rankOf}
 use Rattle.context.specs.declared.Near.{Near}
 use Rattle.near.specs.Near.{nearAt, aroundOf, rankBy, Below, Usable}
 use Rattle.near.proofs.Laws.{usable, same-context, same-order, edge-rank}
 use Rattle.cells.proofs.Cheapest.{All}
 use Rattle.cells.proofs.Order.{order-some, order-under, order-fits}
-use Rattle.map_search.specs.declared.Scan.{Scan}
+use Rattle.scan.specs.declared.Scan.{Scan}
+use Rattle.scan.specs.Scan.{aroundIn}
 
 -- the first cell of a line stands in the top row or in the left column
 at-edge : (transposed : Bool) (l : ℕ) → (cond transposed 0 l ≡ 0) ⊎ (cond transposed l 0 ≡ 0)
@@ -21,34 +22,31 @@ at-edge true l = inl refl
 at-edge false l = inr refl
 
 module _ (m : List ℕ) (s : Scan) (l a : ℕ) where
-  -- as the code and as the definition has them
+  -- as the code has them; as the definition has them, aroundIn
   abbrev pub nearCell : Near
   nearCell = nearAt m (s .w) (rowAt (s .transposed) l a) (colAt (s .transposed) l a)
 
-  abbrev pub aroundCell : Around
-  aroundCell = around byThree m (s .w) (rowAt (s .transposed) l a) (colAt (s .transposed) l a)
-
-  pub context-same : nearCell .ctx ≡ aroundCell .ctx
+  pub context-same : nearCell .ctx ≡ aroundIn m s l a .ctx
   context-same = same-context m (s .w) (rowAt (s .transposed) l a) (colAt (s .transposed) l a)
 
-  pub order-same : (n : ℕ) → 0 < n → orderOf (aroundOf nearCell) n ≡ orderOf aroundCell n
+  pub order-same : (n : ℕ) → 0 < n → orderOf (aroundOf nearCell) n ≡ orderOf (aroundIn m s l a) n
   order-same n some = same-order m (s .w) (rowAt (s .transposed) l a) (colAt (s .transposed) l a) n some
 
   module _ (n : ℕ) (below : Below m n) (some : 0 < n) (most : n ≤ 8) where
     pub near-usable : Usable nearCell n
     near-usable = usable m (s .w) (rowAt (s .transposed) l a) (colAt (s .transposed) l a) n below some most
 
-    pub context-small : aroundCell .ctx < 5
+    pub context-small : aroundIn m s l a .ctx < 5
     context-small = rw (← context-same) (near-usable .context)
 
-    pub order-in : All (λ i. i < n) (orderOf aroundCell n) × (length (orderOf aroundCell n) ≤ 8) × (0 < length (orderOf aroundCell n))
+    pub order-in : All (λ i. i < n) (orderOf (aroundIn m s l a) n) × (length (orderOf (aroundIn m s l a) n) ≤ 8) × (0 < length (orderOf (aroundIn m s l a) n))
     order-in =
         rw (← order-same n some)
         (order-under nearCell n near-usable, order-fits nearCell n near-usable most, order-some nearCell n near-usable)
 
 -- at a line's first cell one neighbour alone comes first
 pub first-rank : (m : List ℕ) (s : Scan) (l n : ℕ) → Below m n → 0 < n → n ≤ 8 → (c : ℕ) → c < n
-    → rankOf (aroundCell m s l 0) n c ≡ rankBy c (nearCell m s l 0 .first)
+    → rankOf (aroundIn m s l 0) n c ≡ rankBy c (nearCell m s l 0 .first)
 first-rank m s l n below some most c under =
     edge-rank m (s .w) (rowAt (s .transposed) l 0) (colAt (s .transposed) l 0) n c (at-edge (s .transposed) l) some most
     (omega (arith, near-usable m s l 0 n below some most .first)) under

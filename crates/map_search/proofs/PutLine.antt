@@ -10,11 +10,11 @@ use lib.ListN.{length}
 use borrow.Author.Tests.{eqb-false, ne-eqb}
 use Rattle.near.specs.Near.{Below}
 use Rattle.cells.specs.declared.Cost.{Cost}
-use Rattle.map_search.specs.declared.Scan.{Scan}
+use Rattle.scan.specs.declared.Scan.{Scan}
 use Rattle.map_search.specs.declared.Choice.{Choice}
-use Rattle.map_search.specs.Lines.{cellIn, fill, rowCost, cellsOf, putLine}
-use Rattle.map_search.specs.Sound.{Sound}
-use Rattle.map_search.proofs.Fill.{length-fill, fill-below}
+use Rattle.scan.specs.Scan.{cellIn, fill, Sound}
+use Rattle.map_search.specs.Lines.{rowCost, cellsOf, putLine}
+use Rattle.scan.proofs.Fill.{length-fill, fill-below}
 use Rattle.map_search.proofs.LineCells.{cells-below, length-cells, overwritten, copied-over}
 use Rattle.map_search.proofs.LineChoice.{Plain}
 

@@ -9,7 +9,7 @@ use lib.ListN.{length, set, length-set}
 use Rattle.near.specs.Near.{Below}
 use Rattle.cells.specs.declared.Cost.{Cost}
 use Rattle.cells.specs.Cell.{plus}
-use Rattle.map_search.specs.declared.Scan.{Scan}
+use Rattle.scan.specs.declared.Scan.{Scan}
 use Rattle.map_search.specs.declared.Choice.{Choice}
 use Rattle.map_search.specs.declared.MapResult.the-variants.{Found, Beaten}
 use Rattle.map_search.specs.Lines.{lineOf, putLine, Walk, Ended, next, reached, restOf}

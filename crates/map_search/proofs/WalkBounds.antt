@@ -15,12 +15,12 @@ use Rattle.ieee.proofs.Bounds.{add-under, mul-under, under-mono, under-bound}
 use Rattle.near.specs.Near.{Below}
 use Rattle.cells.specs.declared.Cost.{Cost}
 use Rattle.cells.specs.Cell.{plus}
-use Rattle.map_search.specs.declared.Scan.{Scan}
+use Rattle.scan.specs.declared.Scan.{Scan}
 use Rattle.map_search.specs.declared.Choice.{Choice}
 use Rattle.map_search.specs.declared.MapResult.{MapResult}
 use Rattle.map_search.specs.declared.MapResult.the-variants.{Found, Beaten}
 use Rattle.map_search.specs.Lines.{lineOf, Walk, Ended, next, reached, restOf, mapOf}
-use Rattle.map_search.specs.Sound.{Sound}
+use Rattle.scan.specs.Scan.{Sound}
 use Rattle.map_search.proofs.Sums.{rep-sum, more-within}
 use Rattle.map_search.proofs.LineChoice.{line-plain}
 use Rattle.map_search.proofs.PutLine.{put-below}

@@ -11,7 +11,8 @@ use Rattle.lists.specs.Counted.{elem}
 use Rattle.context.specs.Map.{cell}
 use Rattle.context.specs.Order.{choose, byThree, around, others, orderOf, place, rankOf}
 use Rattle.cells.specs.Cell.{cheapest, firstCheapest, squaresOf, ratesOf, ranked, chosen}
-use Rattle.map_search.specs.Lines.{Ended, scanOf, fill, distLine, cellAt, cellsOf, constants, candidates, lineOf, putLine, restOf, mapOf}
+use Rattle.scan.specs.Scan.{scanOf, fill}
+use Rattle.map_search.specs.Lines.{Ended, distLine, cellAt, cellsOf, constants, candidates, lineOf, putLine, restOf, mapOf}
 use Rattle.map_search.specs.declared.MapResult.the-variants.{Found, Beaten}
 
 -- f32 numbers

@@ -1,4 +1,3 @@
 pub mod Lines
-pub mod Sound
 pub mod Parts
 pub mod Examples

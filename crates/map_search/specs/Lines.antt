@@ -1,36 +1,19 @@
 -- Lines, their candidates and the walk over them: document 01, 'Line choice'. Assumes nothing.
 use Prim.Native.Nat.{ℕ, zero, suc, _+_, _-_, _*_}
-use mathlib.Core.Bool.{Bool, true, false, cond}
+use mathlib.Core.Bool.{Bool, cond}
 use mathlib.Core.List.{List, [], _∷_, _++_}
 use lib.Dec.{eqb}
 use lib.ListN.{getD, set}
 use lib.Ieee.{Float, nan, binary32, add, mul, le, ofBits}
-use Rattle.context.specs.Map.{rowAt, colAt}
-use Rattle.context.specs.Order.{Around, byThree, around, orderOf, rankOf}
+use Rattle.context.specs.Order.{orderOf, rankOf}
 use Rattle.cells.specs.Cell.{square, totalOf, plus, firstCheapest, squaresOf, ratesOf, cellOf}
 use Rattle.cells.specs.declared.Cost.{Cost}
 use Rattle.cells.specs.declared.Cell.{Cell}
-use Rattle.map_search.specs.declared.Scan.{Scan}
+use Rattle.scan.specs.declared.Scan.{Scan}
+use Rattle.scan.specs.Scan.{placeAt, cellIn, fill, aroundIn}
 use Rattle.map_search.specs.declared.Choice.{Choice}
 use Rattle.map_search.specs.declared.MapResult.{MapResult}
 use Rattle.map_search.specs.declared.MapResult.the-variants.{Found, Beaten}
-
--- lines are rows, or columns when transposed
-abbrev pub scanOf : ℕ → ℕ → Bool → Scan
-scanOf w h false = record { w = w; stride = w; step = 1; lines = h; len = w; transposed = false }
-scanOf w h true = record { w = w; stride = 1; step = w; lines = w; len = h; transposed = true }
-
--- cell a of line l: its place in the row-major map
-abbrev pub placeAt : Scan → ℕ → ℕ → ℕ
-placeAt s l a = l * s .stride + a * s .step
-
-abbrev pub cellIn : List ℕ → Scan → ℕ → ℕ → ℕ
-cellIn m s l a = getD m (placeAt s l a) 0
-
--- the first k cells of line l set to g 0, g 1, ..
-unfoldable pub fill : Scan → ℕ → (ℕ → ℕ) → List ℕ → ℕ → List ℕ
-fill s l g m zero = m
-fill s l g m (suc k) = set (fill s l g m k) (placeAt s l k) (g k)
 
 -- the squares along the first k cells of line l, where cell a has the colour of index g a
 unfoldable pub distLine : List Float → List Float → Scan → ℕ → (ℕ → ℕ) → ℕ → Float
@@ -65,15 +48,12 @@ pub record Ended : Type 0 where
   pub result : MapResult
 
 module _ (samples costs colours : List Float) (n : ℕ) (lambda : Float) (s : Scan) where
-  abbrev pub aroundAt : List ℕ → ℕ → ℕ → Around
-  aroundAt m l a = around byThree m (s .w) (rowAt (s .transposed) l a) (colAt (s .transposed) l a)
-
   abbrev pub ratesAt : List ℕ → ℕ → ℕ → List Float
-  ratesAt m l a = ratesOf costs n (aroundAt m l a .ctx) (eqb (l + a) 0)
+  ratesAt m l a = ratesOf costs n (aroundIn m s l a .ctx) (eqb (l + a) 0)
 
   -- the cheapest index of a cell
   unfoldable pub cellAt : List ℕ → ℕ → ℕ → Cell
-  cellAt m l a = cellOf (squaresOf (getD samples (placeAt s l a) nan) colours) (ratesAt m l a) lambda (orderOf (aroundAt m l a) n)
+  cellAt m l a = cellOf (squaresOf (getD samples (placeAt s l a) nan) colours) (ratesAt m l a) lambda (orderOf (aroundIn m s l a) n)
 
   -- cell by cell: the first k cells of line l; row is the flag's cost
   abbrev pub withCell : Cells → ℕ → ℕ → Cells
@@ -89,7 +69,7 @@ module _ (samples costs colours : List Float) (n : ℕ) (lambda : Float) (s : Sc
 
   abbrev pub constant : List ℕ → ℕ → ℕ → ℕ → Choice
   constant m l ctx c =
-      let rate = add binary32 (rowCost costs ctx 1) (getD (ratesAt m l 0) (rankOf (aroundAt m l 0) n c) nan) in
+      let rate = add binary32 (rowCost costs ctx 1) (getD (ratesAt m l 0) (rankOf (aroundIn m s l 0) n c) nan) in
       let cost : Cost = record { dist = distLine samples colours s l (λ a. c) (s .len); rate = rate } in
       record { cost = cost; flag = 1; index = c }
 

@@ -1,5 +1,5 @@
--- What the functions within the crate answer: the steps of `build_map`. Assumes nothing.
-use Prim.Native.Nat.{ℕ, zero, suc, _+_, _≤_}
+-- What the crate's functions ask and answer: `build_map` and its steps. Assumes nothing.
+use Prim.Native.Nat.{ℕ, zero, suc, _+_, _^_, _≤_}
 use mathlib.Core.Bool.{true, cond}
 use mathlib.Core.Path.{_≡_}
 use mathlib.Core.List.{List, [], _∷_}
@@ -7,12 +7,14 @@ use mathlib.Core.Logic.{_⊎_}
 use lib.Dec.{eqb, T}
 use lib.ListN.{getD}
 use lib.Ieee.{Float, nan, binary32, add, le, fits}
+use Rattle.ieee.specs.Bounds.{NotNeg, Within}
 use Rattle.near.specs.Near.{rankBy}
 use Rattle.cells.specs.Cell.{totalOf, cheapest}
 use Rattle.cells.specs.declared.Cost.{Cost}
 use Rattle.map_search.specs.declared.Choice.{Choice}
-use Rattle.map_search.specs.declared.Scan.{Scan}
-use Rattle.map_search.specs.Lines.{cellsOf, copied, constant, constants, totalBy}
+use Rattle.scan.specs.declared.Scan.{Scan}
+use Rattle.map_search.specs.declared.MapResult.{MapResult}
+use Rattle.map_search.specs.Lines.{Ended, cellsOf, copied, constant, constants, totalBy}
 
 module _ (samples costs colours : List Float) (n : ℕ) (lambda : Float) (s : Scan) where
   -- the candidate that the code begins with: the copy, or on the first line the constant of index 0, which then meets itself
@@ -41,3 +43,14 @@ pub record Halted (samples costs colours : List Float) (n : ℕ) (lambda : Float
   pub cost : r ≡ cellsOf samples costs colours n lambda s m l row cells .cost
   pub put : map ≡ cellsOf samples costs colours n lambda s m l row cells .map
   pub why : (cells ≡ s .len) ⊎ (le limit (totalOf r lambda) ≡ true)
+
+-- what a search promises: its result, its map and its flags are those of the definition
+pub record Built (w : Ended) (r : MapResult) (map flags : List ℕ) : Type 0 where
+  pub result : r ≡ w .result
+  pub cells : map ≡ w .map
+  pub signs : flags ≡ w .flags
+
+-- what the costs and lambda are: not negative, lambda finite
+pub record Priced (costs : List Float) (lambda : Float) : Type 0 where
+  pub plus : (i : ℕ) → NotNeg (getD costs i nan)
+  pub mild : Within lambda (2 ^ 20)

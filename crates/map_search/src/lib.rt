@@ -1,4 +1,5 @@
 // The map search: for each line the cheapest of copy, constant and cell by cell. Functions may have a `requires`.
+use scan::Scan;
 ghost use mathlib.Core.Path.{_≡_};
 ghost use Prim.Native.Nat.{_+_, _*_, _-_, _≤_, _<_};
 ghost use mathlib.Core.Bool.{cond};
@@ -7,21 +8,11 @@ ghost use lib.ListN.{length, getD};
 ghost use lib.Ieee.{nan, binary32, add, lt};
 ghost use Rattle.near.specs.Near.{nearAt, rankBy, Below};
 ghost use Rattle.cells.specs.Cell.{square, totalOf, cheapest, eight};
-ghost use Rattle.map_search.specs.Lines.{scanOf, placeAt, cellIn, fill, distLine, rowCost, cellAt, copiedBy, lineOf, putLine, mapOf};
-ghost use Rattle.map_search.specs.Parts.{bestOf, Halted, constantBy, constantsBy};
+ghost use Rattle.scan.specs.Scan.{scanOf, placeAt, cellIn, fill, Sound};
+ghost use Rattle.map_search.specs.Lines.{distLine, rowCost, cellAt, copiedBy, lineOf, putLine, mapOf};
+ghost use Rattle.map_search.specs.Parts.{bestOf, Halted, constantBy, constantsBy, Priced, Built};
 ghost use Rattle.context.specs.Map.{rowAt, colAt};
-ghost use Rattle.map_search.specs.Sound.{Sound, Priced, Built};
 ghost use Rattle.map_search.specs.declared.Choice.{Choice};
-
-// The order in which a map is walked: cell a of line l stands at l * stride + a * step.
-pub struct Scan {
-    pub w: usize,
-    pub stride: usize,
-    pub step: usize,
-    pub lines: usize,
-    pub len: usize,
-    pub transposed: bool,
-}
 
 // A line's candidate; index is that of a constant line.
 pub struct Choice {
@@ -33,36 +24,6 @@ pub struct Choice {
 pub enum MapResult {
     Found(f32, f32),
     Beaten,
-}
-
-pub fn scan_of(w: usize, h: usize, transposed: bool) -> Scan
-    ensures { λ r. ⌜ r ≡ scanOf w h transposed ⌝ }
-{
-    if transposed {
-        return Scan {
-            w,
-            stride: 1,
-            step: w,
-            lines: w,
-            len: h,
-            transposed: true,
-        };
-    }
-    Scan {
-        w,
-        stride: w,
-        step: 1,
-        lines: h,
-        len: w,
-        transposed: false,
-    }
-}
-
-fn place(s: Scan, l: usize, a: usize) -> usize
-    requires { ⌜ placeAt s l a < 4096 ⌝ }
-    ensures { λ r. ⌜ r ≡ placeAt s l a ⌝ }
-{
-    l * s.stride + a * s.step
 }
 
 // Eight sums, each with one square more.
@@ -90,7 +51,7 @@ fn const_dists(src: &[f32], colors: &[f32; 8], s: Scan, l: usize) -> [f32; 8]
     let mut t = [0.0f32; 8];
     let mut a: usize = 0;
     while a < s.len {
-        let p = place(s, l, a);
+        let p = scan::place(s, l, a);
         let u = add_squares(t, src[p], colors);
         t = u;
         a += 1;
@@ -107,39 +68,13 @@ fn copy_dist(src: &[f32], map: &[u8], colors: &[f32; 8], s: Scan, l: usize) -> f
     let mut t = 0.0f32;
     let mut a: usize = 0;
     while a < s.len {
-        let p = place(s, l, a);
-        let q = place(s, l - 1, a);
+        let p = scan::place(s, l, a);
+        let q = scan::place(s, l - 1, a);
         let i = map[q] as usize;
         t = t + cells::square(src[p], colors[i]);
         a += 1;
     }
     t
-}
-
-fn fill_line(map: &mut [u8], s: Scan, l: usize, i: u8)
-    requires { ⌜ Sound s (length (now map)) × (l < s .lines) ⌝ }
-    ensures { λ _. ⌜ now (map .exit) ≡ fill s l (λ a. i) (now (map .entry)) (s .len) ⌝ }
-{
-    let mut a: usize = 0;
-    while a < s.len {
-        let p = place(s, l, a);
-        map[p] = i;
-        a += 1;
-    }
-}
-
-fn copy_line(map: &mut [u8], s: Scan, l: usize)
-    requires { ⌜ Sound s (length (now map)) × (l < s .lines) × (0 < l) ⌝ }
-    ensures { λ _. ⌜ now (map .exit) ≡ fill s l (λ a. cellIn (now (map .entry)) s (l - 1) a) (now (map .entry)) (s .len) ⌝ }
-{
-    let mut a: usize = 0;
-    while a < s.len {
-        let q = place(s, l - 1, a);
-        let i = map[q];
-        let p = place(s, l, a);
-        map[p] = i;
-        a += 1;
-    }
 }
 
 // The rank of index c where v alone comes first.
@@ -209,17 +144,6 @@ fn best_const(
     best
 }
 
-// The neighbours of cell a of line l.
-fn near_cell(map: &[u8], s: Scan, l: usize, a: usize) -> context::Near
-    requires { ⌜ rowAt (s .transposed) l a * s .w + colAt (s .transposed) l a < length (now map) ⌝ }
-    ensures { λ r. ⌜ r ≡ nearAt (now (map .entry)) (s .w) (rowAt (s .transposed) l a) (colAt (s .transposed) l a) ⌝ }
-{
-    if s.transposed {
-        return near::near_at(map, s.w, a, l);
-    }
-    near::near_at(map, s.w, l, a)
-}
-
 // The cheapest index of cell a of line l.
 fn one_cell(
     src: &[f32],
@@ -236,9 +160,9 @@ fn one_cell(
     requires { ⌜ (2 ≤ n) × (n ≤ 8) × (length (now costs) ≡ 301) × Below (now map) n ⌝ }
     ensures { λ r. ⌜ r ≡ cellAt (now (src .entry)) (now (costs .entry)) (now (colors .entry)) n lambda s (now (map .entry)) l a ⌝ }
 {
-    let p = place(s, l, a);
+    let p = scan::place(s, l, a);
     let x = src[p];
-    let m = near_cell(map, s, l, a);
+    let m = scan::near_cell(map, s, l, a);
     let k = m.ctx;
     let rates = cells::rates(costs, n, k, l + a == 0);
     cells::choose_cell(x, colors, m, &rates, n, lambda)
@@ -269,7 +193,7 @@ fn cell_by_cell(
     let mut a: usize = 0;
     while a < s.len {
         let v = one_cell(src, map, costs, colors, s, l, a, n, lambda);
-        let p = place(s, l, a);
+        let p = scan::place(s, l, a);
         map[p] = v.index;
         let d = v.cost;
         cost = cells::plus(cost, d);
@@ -332,7 +256,7 @@ fn line_best(
     requires { ⌜ (2 ≤ n) × (n ≤ 8) × (length (now costs) ≡ 301) × Below (now map) n ⌝ }
     ensures { λ r. ⌜ r ≡ bestOf (now (src .entry)) (now (costs .entry)) (now (colors .entry)) n lambda s (now (map .entry)) l ctx ⌝ }
 {
-    let m = near_cell(map, s, l, 0);
+    let m = scan::near_cell(map, s, l, 0);
     let k = m.ctx;
     let v = m.first as usize;
     let rates = cells::rates(costs, n, k, l == 0);
@@ -352,9 +276,9 @@ fn put_best(map: &mut [u8], s: Scan, l: usize, best: Choice)
 {
     if best.flag == 1 {
         let i = best.index;
-        fill_line(map, s, l, i);
+        scan::fill_line(map, s, l, i);
     } else {
-        copy_line(map, s, l);
+        scan::copy_line(map, s, l);
     }
 }
 

@@ -8,8 +8,9 @@ use lib.Dec.{eqb}
 use lib.ListN.{length}
 use lib.Ieee.{Float}
 use Rattle.sizes.specs.declared.Block.{Block}
-use Rattle.search.specs.declared.Palette.{Palette}
-use Rattle.search.specs.Search.{histogramIn, foundIn, faultOf, levelsFault, searchNumber, refusedBy, paletteBy, Searches}
+use Rattle.accept.specs.declared.Palette.{Palette}
+use Rattle.accept.specs.Answer.{refusedBy}
+use Rattle.search.specs.Search.{histogramIn, foundIn, faultOf, levelsFault, searchNumber, paletteBy, Searches}
 use Rattle.search.specs.Steps.{Written}
 use Rattle.search.proofs.Finds.{finds}
 use Rattle.search.proofs.Passed.{all-passed}

@@ -17,7 +17,7 @@ use Rattle.context.specs.Map.{linesOf}
 use Rattle.sizes.specs.declared.Block.{Block}
 use Rattle.sizes.specs.Known.{Known}
 use Rattle.search.specs.declared.Best.{Best}
-use Rattle.search.specs.declared.Palette.{Palette}
+use Rattle.accept.specs.declared.Palette.{Palette}
 use Rattle.search.specs.Search.{Standing, searched, histogramIn, foundIn, paletteBy}
 use Rattle.search.specs.Steps.{Passed, Stands, Written}
 use Rattle.search.proofs.Lengths.{lines-are}

@@ -16,11 +16,10 @@ use Rattle.samples.proofs.Ranges.{lambda-within, costs-within, sample-within-40
 use Rattle.groups.specs.declared.Histogram.{Histogram}
 use Rattle.groups.specs.Groups.{centersOf, groupsOf}
 use Rattle.groups.proofs.Each.{Each}
-use Rattle.map_search.specs.Lines.{scanOf}
-use Rattle.map_search.specs.Sound.{Sound}
+use Rattle.scan.specs.Scan.{scanOf, Sound}
 use Rattle.map_search.specs.declared.MapResult.the-variants.{Found}
 use Rattle.map_search.proofs.WalkBounds.{always-found, found-in}
-use Rattle.map_search.proofs.Scans.{scan-sound}
+use Rattle.scan.proofs.Scans.{scan-sound}
 use Rattle.sizes.specs.declared.Block.{Block}
 use Rattle.sizes.specs.Sizes.{headOf, sizeOf}
 use Rattle.sizes.proofs.Levels.{SizeTo, order-each, order-some}

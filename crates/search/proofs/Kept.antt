@@ -12,7 +12,8 @@ use Rattle.ieee.proofs.Bounds.{under-lt}
 use Rattle.groups.specs.declared.Histogram.{Histogram}
 use Rattle.groups.specs.Groups.{centersOf, groupsOf}
 use Rattle.groups.proofs.Each.{Each}
-use Rattle.map_search.specs.Lines.{scanOf, mapOf, Ended}
+use Rattle.scan.specs.Scan.{scanOf}
+use Rattle.map_search.specs.Lines.{mapOf, Ended}
 use Rattle.map_search.specs.declared.MapResult.{MapResult}
 use Rattle.map_search.specs.declared.MapResult.the-variants.{Found, Beaten}
 use Rattle.sizes.specs.declared.Block.{Block}

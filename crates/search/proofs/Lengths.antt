@@ -7,8 +7,9 @@ use lib.ListN.{length, length-set}
 use lib.Ieee.{Float}
 use Rattle.lists.proofs.Choice.{either-way}
 use Rattle.context.specs.Map.{linesOf, lengthOf}
-use Rattle.map_search.specs.Lines.{scanOf, Walk, Ended, lineOf, next, reached, restOf}
-use Rattle.map_search.specs.declared.Scan.{Scan}
+use Rattle.scan.specs.Scan.{scanOf}
+use Rattle.map_search.specs.Lines.{Walk, Ended, lineOf, next, reached, restOf}
+use Rattle.scan.specs.declared.Scan.{Scan}
 use Rattle.map_search.specs.declared.MapResult.the-variants.{Beaten}
 use Rattle.map_search.proofs.PutLine.{length-put}
 

@@ -14,7 +14,8 @@ use Rattle.accept.specs.Accepted.{sidesOk, depthOk}
 use Rattle.accept.proofs.Accepted.{sides-at}
 use Rattle.samples.specs.Samples.{lambdaOk, costsOk, samplesOk}
 use Rattle.sizes.specs.declared.Block.{Block}
-use Rattle.search.specs.Search.{histogramIn, roomsOk, largeOk, faultOf, levelsFault, searchNumber}
+use Rattle.accept.specs.Answer.{roomsOk}
+use Rattle.search.specs.Search.{histogramIn, largeOk, faultOf, levelsFault, searchNumber}
 use Rattle.search.specs.Steps.{Passed}
 
 -- the tests 1 to 6 have passed, and cells and lines hold a map of either orientation

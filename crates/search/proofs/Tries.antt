@@ -17,12 +17,13 @@ use Rattle.ieee.specs.Bounds.{NotNeg}
 use Rattle.samples.proofs.Ranges.{lambda-within, costs-count, costs-within}
 use Rattle.context.specs.Map.{linesOf}
 use Rattle.near.specs.Near.{Below}
-use Rattle.map_search.specs.Lines.{scanOf, mapOf}
-use Rattle.map_search.specs.Sound.{Sound, Priced, Built}
-use Rattle.map_search.specs.declared.Scan.{Scan}
+use Rattle.scan.specs.Scan.{scanOf, Sound}
+use Rattle.map_search.specs.Lines.{mapOf}
+use Rattle.map_search.specs.Parts.{Priced, Built}
+use Rattle.scan.specs.declared.Scan.{Scan}
 use Rattle.map_search.specs.declared.MapResult.{MapResult}
 use Rattle.map_search.specs.declared.MapResult.the-variants.{Found}
-use Rattle.map_search.proofs.Scans.{scan-sound}
+use Rattle.scan.proofs.Scans.{scan-sound}
 use Rattle.sizes.specs.declared.Block.{Block}
 use Rattle.sizes.specs.declared.Size.{Size}
 use Rattle.search.specs.declared.Best.{Best}

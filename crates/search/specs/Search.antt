@@ -12,7 +12,8 @@ use Rattle.accept.specs.Accepted.{sidesOk, depthOk}
 use Rattle.samples.specs.Samples.{lambdaOk, costsOk, samplesOk, levelOf}
 use Rattle.groups.specs.declared.Histogram.{Histogram}
 use Rattle.groups.specs.Histogram.{histogramOf}
-use Rattle.map_search.specs.Lines.{Ended, scanOf, mapOf}
+use Rattle.scan.specs.Scan.{scanOf}
+use Rattle.map_search.specs.Lines.{Ended, mapOf}
 use Rattle.map_search.specs.declared.MapResult.{MapResult}
 use Rattle.map_search.specs.declared.MapResult.the-variants.{Found, Beaten}
 use Rattle.sizes.specs.declared.Block.{Block}
@@ -20,7 +21,8 @@ use Rattle.sizes.specs.declared.Size.{Size}
 use Rattle.counts.specs.Counts.{orientSent}
 use Rattle.sizes.specs.Sizes.{sizeOf}
 use Rattle.sizes.specs.Order.{sizesTo, inOrder}
-use Rattle.search.specs.declared.Palette.{Palette}
+use Rattle.accept.specs.declared.Palette.{Palette}
+use Rattle.accept.specs.Answer.{roomsOk, refusedBy}
 use Rattle.search.specs.declared.Best.{Best}
 
 -- the best map so far; while there is none, its total is +infinity
@@ -82,10 +84,6 @@ module _ (samples costs : List Float) (b : Block) where
   abbrev pub foundIn : Standing
   foundIn = searched (histogramIn samples)
 
--- room for every cell, and for one flag per line of either orientation, that is, for as many as the longer side has
-abbrev pub roomsOk : ℕ → ℕ → ℕ → ℕ → Bool
-roomsOk w h cells lines = leb (w * h) cells && leb (max w h) lines
-
 -- a side of 16 or more
 abbrev pub largeOk : ℕ → ℕ → Bool
 largeOk w h = leb 16 w || leb 16 h
@@ -113,10 +111,6 @@ unfoldable pub searchNumber : List Float → List Float → Block → ℕ → �
 searchNumber samples costs b cells lines =
     let fault = faultOf samples costs b cells lines in
     cond (eqb fault 0) (levelsFault (histogramIn samples .n)) fault
-
--- a refusal has zeros in every other field
-abbrev pub refusedBy : ℕ → Palette
-refusedBy k = record { number = k; n = 0; colors = replicate 8 0; transposed = false; bits = ofBits binary32 0 }
 
 -- the bit estimate is (head + map bits) × 3
 abbrev pub paletteBy : Best → Palette

@@ -7,7 +7,7 @@ use lib.Ieee.{Float}
 use Rattle.lists.specs.Written.{front}
 use Rattle.sizes.specs.declared.Block.{Block}
 use Rattle.search.specs.declared.Best.{Best}
-use Rattle.search.specs.declared.Palette.{Palette}
+use Rattle.accept.specs.declared.Palette.{Palette}
 use Rattle.search.specs.Search.{Standing, faultOf, paletteBy}
 
 -- the tests 1 to 8 have passed

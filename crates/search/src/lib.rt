@@ -1,4 +1,5 @@
 // The search of a block: its tests, then the sizes in their order, each in both orientations.
+use accept::Palette;
 use map_search::MapResult;
 use sizes::Block;
 use sizes::Size;
@@ -7,23 +8,13 @@ ghost use mathlib.Core.List.{map};
 ghost use Prim.Native.Nat.{_*_, _≤_};
 ghost use lib.ListN.{length, take, replicate};
 ghost use lib.Ieee.{binary32};
-ghost use Rattle.lists.specs.Written.{written};
 ghost use Rattle.ieee.specs.Numbers.{nat};
 ghost use Rattle.context.specs.Map.{linesOf};
-ghost use Rattle.map_search.specs.Sound.{Built};
+ghost use Rattle.map_search.specs.Parts.{Built};
 ghost use Rattle.sizes.specs.Known.{Known};
-ghost use Rattle.search.specs.Search.{Standing, judged, mapIn, tried, triedBoth, searched, histogramIn, foundIn, refusedBy, Searches};
-ghost use Rattle.search.specs.Search.{roomsOk, largeOk, faultOf, levelsFault};
+ghost use Rattle.search.specs.Search.{Standing, judged, mapIn, tried, triedBoth, searched, histogramIn, foundIn, Searches};
+ghost use Rattle.search.specs.Search.{largeOk, faultOf, levelsFault};
 ghost use Rattle.search.specs.Steps.{Passed, Stands, Written};
-
-// The answer: number 0 with the colours, their count, the orientation and the bit estimate, or a refusal with zeros.
-pub struct Palette {
-    pub number: u32,
-    pub n: usize,
-    pub colors: [u16; 8],
-    pub transposed: bool,
-    pub bits: f32,
-}
 
 // The best map so far, but for its cells and flags.
 pub struct Best {
@@ -32,32 +23,6 @@ pub struct Best {
     pub colors: [u16; 8],
     pub transposed: bool,
     pub bits: f32,
-}
-
-fn refused(number: u32) -> Palette
-    ensures { λ r. ⌜ r ≡ refusedBy number ⌝ }
-{
-    Palette {
-        number,
-        n: 0,
-        colors: [0u16; 8],
-        transposed: false,
-        bits: 0.0,
-    }
-}
-
-// Number 7: room for the cells, and for the flags of either orientation.
-fn rooms_ok(width: usize, height: usize, cells: usize, lines: usize) -> bool
-    requires { ⌜ (width ≤ 64) × (height ≤ 64) ⌝ }
-    ensures { λ r. ⌜ r ≡ roomsOk width height cells lines ⌝ }
-{
-    if cells < width * height {
-        return false;
-    }
-    if lines < width {
-        return false;
-    }
-    height <= lines
 }
 
 // Number 8: a side of 16 or more.
@@ -92,7 +57,7 @@ fn fault(samples: &[f32], costs: &[f32], b: Block, cells: usize, lines: usize) -
     if !samples::samples_ok(samples, b.bd) {
         return 6;
     }
-    if !rooms_ok(b.width, b.height, cells, lines) {
+    if !accept::rooms_ok(b.width, b.height, cells, lines) {
         return 7;
     }
     if !large_ok(b.width, b.height) {
@@ -130,18 +95,6 @@ fn values(colors: [u16; 8]) -> [f32; 8]
     ]
 }
 
-// Copies the first `count` bytes to the front.
-fn copy_front(from: &[u8], count: usize, to: &mut [u8])
-    requires { ⌜ (count ≤ length (now from)) × (count ≤ length (now to)) ⌝ }
-    ensures { λ r. ⌜ now (to .exit) ≡ written (now (to .entry)) 0 (take count (now (from .entry))) ⌝ }
-{
-    let mut i: usize = 0;
-    while i < count {
-        to[i] = from[i];
-        i += 1;
-    }
-}
-
 // What stands after a found map of a size: that map, if its total is strictly lower.
 fn judge(
     b: Block,
@@ -163,8 +116,8 @@ fn judge(
     let all = z.head + bits;
     let total = error + b.lambda * all;
     if total < best.total {
-        copy_front(cells, cells.len(), map);
-        copy_front(lines, lines.len(), flags);
+        lists::copy_bytes(cells, cells.len(), map);
+        lists::copy_bytes(lines, lines.len(), flags);
         let colors = z.colors;
         return Best {
             total,
@@ -194,7 +147,7 @@ fn map_in(
     ensures { λ r. ⌜ Built (mapIn (now (samples .entry)) (now (costs .entry)) b z transposed bound) r
         (now (cells .exit)) (now (lines .exit)) ⌝ }
 {
-    let s = map_search::scan_of(b.width, b.height, transposed);
+    let s = scan::scan_of(b.width, b.height, transposed);
     let colors = z.colors;
     let colours = values(colors);
     map_search::build_map(
@@ -359,8 +312,8 @@ fn search_in(
     let table = t.costs;
     let cuts = t.cuts;
     let best = best_of(samples, costs, b, h, &table, &cuts, cells, lines);
-    copy_front(cells, b.width * b.height, map);
-    copy_front(
+    lists::copy_bytes(cells, b.width * b.height, map);
+    lists::copy_bytes(
         lines,
         context::lines_of(best.transposed, b.width, b.height),
         flags,
@@ -418,12 +371,12 @@ pub fn search(
     };
     let number = fault(samples, costs, b, map.len(), flags.len());
     if number != 0 {
-        return refused(number);
+        return accept::refuse(number);
     }
     let h = groups::histogram_of(samples, bd);
     let levels = levels_fault(h.n);
     if levels != 0 {
-        return refused(levels);
+        return accept::refuse(levels);
     }
     search_levels(samples, costs, b, h, map, flags)
 }

@@ -25,11 +25,13 @@ use Rattle.groups.specs.declared.Histogram.{Histogram}
 use Rattle.groups.specs.Histogram.{occurs, histogramOf, sumTo}
 use Rattle.groups.specs.Groups.{sumsFrom, firstOf, costIn, chosen as cuts, colorsOf}
 use Rattle.cells.specs.Cell.{cheapest, firstCheapest, squaresOf, ratesOf, ranked, chosen}
-use Rattle.map_search.specs.Lines.{fill, distLine, cellAt, cellsOf, constants, candidates, lineOf, putLine, restOf}
+use Rattle.scan.specs.Scan.{fill}
+use Rattle.map_search.specs.Lines.{distLine, cellAt, cellsOf, constants, candidates, lineOf, putLine, restOf}
 use Rattle.sizes.specs.declared.Block.{Block}
 use Rattle.sizes.specs.Sizes.{headOf, leastOf}
 use Rattle.sizes.specs.Order.{those, ordered}
-use Rattle.search.specs.Search.{tried, triedBoth, visited, searched, faultOf, levelsFault, searchNumber, refusedBy, paletteBy, answerOf, histogramIn, foundIn}
+use Rattle.accept.specs.Answer.{refusedBy}
+use Rattle.search.specs.Search.{tried, triedBoth, visited, searched, faultOf, levelsFault, searchNumber, paletteBy, answerOf, histogramIn, foundIn}
 use Rattle.accept.specs.Accepted.{sidesOk, depthOk, colorsOk, orientOk, cacheOk, countsOk, lineOk, mapOk, refusal}
 use Rattle.fields.specs.Fields.{isDigit, column, columns, fieldAt, isLine, lineNumbers, areRows, rowNumbers}
 use Rattle.printing.specs.Printing.{digits, field, line, callLine, callLines, listed, refused}

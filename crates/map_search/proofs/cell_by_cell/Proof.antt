@@ -1,7 +1,8 @@
 use Rattle.map_search.proofs.LineCells.{cells-below, cells-by}
 use Rattle.near.specs.Near.{Below}
 use mathlib.Core.Logic.{inl, inr}
-use Rattle.map_search.specs.Lines.{Cells, cellsOf, placeAt}
+use Rattle.scan.specs.Scan.{placeAt}
+use Rattle.map_search.specs.Lines.{Cells, cellsOf}
 use borrow.Author.Needs.{needs}
 use mathlib.Core.List.{List}
 use lib.Dec.{T}

@@ -11,8 +11,8 @@ use Rattle.cells.specs.Cell.{totalOf}
 use Rattle.map_search.specs.declared.Choice.{Choice}
 use Rattle.map_search.specs.Lines.{rowCost}
 use Rattle.map_search.specs.Parts.{Halted}
-use Rattle.map_search.specs.Sound.{Sound}
-use Rattle.map_search.proofs.Scans.{sound-mono}
+use Rattle.scan.specs.Scan.{Sound}
+use Rattle.scan.proofs.Scans.{sound-mono}
 use Rattle.map_search.proofs.LineCells.{length-cells}
 use Rattle.map_search.proofs.LineChoice.{Plain, best-plain}
 use Rattle.map_search.proofs.PutLine.{put-plain}

@@ -1,5 +1,6 @@
 use Rattle.cells.specs.Cell.{eight}
-use Rattle.map_search.specs.Lines.{placeAt, distLine}
+use Rattle.scan.specs.Scan.{placeAt}
+use Rattle.map_search.specs.Lines.{distLine}
 use borrow.Author.Needs.{needs}
 use native.Mathlib.Numerals.{add-one}
 use lib.ListN.{length}

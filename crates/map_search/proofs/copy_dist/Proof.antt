@@ -1,4 +1,5 @@
-use Rattle.map_search.specs.Lines.{placeAt, cellIn, distLine}
+use Rattle.scan.specs.Scan.{placeAt, cellIn}
+use Rattle.map_search.specs.Lines.{distLine}
 use borrow.Author.Needs.{needs}
 use native.Mathlib.Numerals.{add-one}
 use lib.ListN.{length}

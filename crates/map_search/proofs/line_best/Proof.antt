@@ -1,8 +1,8 @@
-use Rattle.map_search.proofs.Fill.{below-8}
+use Rattle.scan.proofs.Fill.{below-8}
 use Rattle.map_search.proofs.Constants.{best-same}
 use Rattle.near.specs.Near.{Usable}
 use Rattle.map_search.proofs.Neighbours.{near-usable}
-use Rattle.map_search.specs.Lines.{placeAt}
+use Rattle.scan.specs.Scan.{placeAt}
 use lib.ListN.{length}
 use Prim.Native.Nat.{_<_}
 use native.Mathlib.Omega.{arith}

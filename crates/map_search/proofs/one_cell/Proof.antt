@@ -1,6 +1,7 @@
 use Rattle.near.specs.Near.{Usable}
 use Rattle.map_search.proofs.Neighbours.{near-usable, context-same, order-same}
-use Rattle.map_search.specs.Lines.{placeAt, cellAt}
+use Rattle.scan.specs.Scan.{placeAt}
+use Rattle.map_search.specs.Lines.{cellAt}
 use lib.ListN.{length}
 use Prim.Native.Nat.{_<_}
 use native.Mathlib.Omega.{arith}

@@ -12,7 +12,8 @@ use Rattle.lists.proofs.Counted.{within-at}
 use Rattle.accept.specs.Accepted.{sidesOk, depthOk}
 use Rattle.accept.proofs.Accepted.{sides-at}
 use Rattle.samples.specs.Samples.{lambdaOk, costsOk, samplesOk}
-use Rattle.search.specs.Search.{roomsOk, largeOk, faultOf}
+use Rattle.accept.specs.Answer.{roomsOk}
+use Rattle.search.specs.Search.{largeOk, faultOf}
 use Rattle.search.proofs.fault.Statement.{statement}
 use Rattle.search.proofs.fault.Tie as tie
 

@@ -11,11 +11,11 @@ lower c = c .before .before .before .before .before .before .before .before .bef
 abbrev start : tie.Then1 → tie.Start
 start c = c .before .before .before .before .before .before .before .before
 
-copy-front-requires : tie.Need-copy-front-requires
-copy-front-requires c κs = search needs
+copy-bytes-requires : tie.Need-copy-bytes-requires
+copy-bytes-requires c κs = search needs
 
-copy-front-requires-2 : tie.Need-copy-front-requires-2
-copy-front-requires-2 c κs = search needs
+copy-bytes-requires-2 : tie.Need-copy-bytes-requires-2
+copy-bytes-requires-2 c κs = search needs
 
 same-length : tie.Need-same-length
 same-length c = search needs
@@ -27,8 +27,8 @@ returns : tie.Need-returns
 returns c =
     let a = start (lower c) .args in
     let fits = start (lower c) .pre in
-    let cells = c .before .before .before .before .before .before .before .copy-front .ensures in
-    let lines = c .before .before .before .copy-front2 .ensures in
+    let cells = c .before .before .before .before .before .before .before .copy-bytes .ensures in
+    let lines = c .before .before .before .copy-bytes2 .ensures in
     λ s S.
     lower-stands (a .b) (a .z) (a .transposed) (a .error) (a .bits) (now (a .cells)) (now (a .lines)) s S _ _
     (fits .0) (fits .1) cells lines (lower c .if1 .taken)
@@ -43,8 +43,8 @@ pub judge-spec : {M : Type 1} → statement M
 judge-spec =
     tie.close
     (tie.spec
-    copy-front-requires
-    copy-front-requires-2
+    copy-bytes-requires
+    copy-bytes-requires-2
     same-length
     same-length-2
     returns

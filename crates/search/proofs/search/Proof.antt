@@ -40,8 +40,8 @@ second c =
     number-second (now (a .samples)) (now (a .costs)) (block s) (now (a .map)) (now (a .flags)) _
     (tested .before .fault .ensures) _ levels (tested .if1 .left)
 
-refused-requires : tie.Need-refused-requires
-refused-requires c κs = search needs
+refuse-requires : tie.Need-refuse-requires
+refuse-requires c κs = search needs
 
 returns : tie.Need-returns
 returns c =
@@ -51,7 +51,7 @@ returns c =
     let number = number-first (now (a .samples)) (now (a .costs)) (block s) (now (a .map)) (now (a .flags)) _
     (c .before .before .fault .ensures) failed in
     refuses (now (a .samples)) (now (a .costs)) (block s) (now (a .map)) (now (a .flags)) _ number failed _
-    (c .refused .ensures)
+    (c .refuse .ensures)
 
 histogram-of-requires : tie.Need-histogram-of-requires
 histogram-of-requires c κs =
@@ -62,15 +62,15 @@ histogram-of-requires c κs =
 levels-fault-requires : tie.Need-levels-fault-requires
 levels-fault-requires c κs = search needs
 
-refused-requires-2 : tie.Need-refused-requires-2
-refused-requires-2 c κs = search needs
+refuse-requires-2 : tie.Need-refuse-requires-2
+refuse-requires-2 c κs = search needs
 
 returns-2 : tie.Need-returns-2
 returns-2 c =
     let s = start (c .before .before .before .before) in
     let a = s .args in
     refuses (now (a .samples)) (now (a .costs)) (block s) (now (a .map)) (now (a .flags)) _
-    (second (c .before .before)) (c .before .if2 .taken) _ (c .refused2 .ensures)
+    (second (c .before .before)) (c .before .if2 .taken) _ (c .refuse2 .ensures)
 
 search-levels-requires : tie.Need-search-levels-requires
 search-levels-requires c κs =
@@ -99,11 +99,11 @@ search-spec =
     tie.close
     (tie.spec
     fault-requires
-    refused-requires
+    refuse-requires
     returns
     histogram-of-requires
     levels-fault-requires
-    refused-requires-2
+    refuse-requires-2
     returns-2
     search-levels-requires
     same-length

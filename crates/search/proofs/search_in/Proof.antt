@@ -73,19 +73,19 @@ best-of-requires c κs =
       passed-aside (pre .0 .0) _ _ (pre .0 .1) (pre .0 .2),
     )
 
-mul-copy-front : tie.Need-mul-copy-front
-mul-copy-front c =
+mul-copy-bytes : tie.Need-mul-copy-bytes
+mul-copy-bytes c =
     let few = few-cells (c .before .before .before .before .before .before) in
     record { fits = lt-of-le-of-lt few (lit< tt) }
 
-copy-front-requires : tie.Need-copy-front-requires
-copy-front-requires c κs = cells-fit (c .before .before .before .before .before .before .before)
+copy-bytes-requires : tie.Need-copy-bytes-requires
+copy-bytes-requires c κs = cells-fit (c .before .before .before .before .before .before .before)
 
 lines-of-requires : tie.Need-lines-of-requires
 lines-of-requires c κs = search needs
 
-copy-front-requires-2 : tie.Need-copy-front-requires-2
-copy-front-requires-2 c κs = lines-fit (c .before)
+copy-bytes-requires-2 : tie.Need-copy-bytes-requires-2
+copy-bytes-requires-2 c κs = lines-fit (c .before)
 
 same-length : tie.Need-same-length
 same-length c = search needs
@@ -105,8 +105,8 @@ returns c =
     let t = best l in
     let pre = start t .pre in
     let levels = pre .1 in
-    let cells-copied = c .before .before .before .before .before .before .before .before .before .before .copy-front .ensures in
-    let lines-copied = c .before .before .before .before .copy-front2 .ensures in
+    let cells-copied = c .before .before .before .before .before .before .before .before .before .before .copy-bytes .ensures in
+    let lines-copied = c .before .before .before .before .copy-bytes2 .ensures in
     written-found (ready-of (pre .0 .0)) (levels .0) (levels .1) (levels .2) (t .best-of .ensures) _ _ _ _ _ cells-copied lines-copied
     (l .lines-of .ensures) (take-fits _ _ _ (cells-fit t .0) (cells-fit t .1))
     (take-fits _ _ _ (lines-fit l .0) (lines-fit l .1)) _ (as-palette (t .best-of .result))
@@ -118,10 +118,10 @@ search-in-spec =
     last-size-requires
     tables-of-requires
     best-of-requires
-    mul-copy-front
-    copy-front-requires
+    mul-copy-bytes
+    copy-bytes-requires
     lines-of-requires
-    copy-front-requires-2
+    copy-bytes-requires-2
     same-length
     same-length-2
     same-length-3

@@ -1,5 +1,5 @@
 use mathlib.Core.Path.{ap, _∙_}
-use Rattle.search.specs.declared.Palette.{Palette}
+use Rattle.accept.specs.declared.Palette.{Palette}
 use Rattle.search.proofs.Answer.{few-colors}
 use Rattle.station.specs.Searched.{fieldsOf}
 use borrow.Author.Needs.{needs}

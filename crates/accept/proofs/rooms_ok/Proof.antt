@@ -5,8 +5,8 @@ use native.Mathlib.Nat.{mul-le-mul, lt-of-le-of-lt}
 use native.Mathlib.Omega.{arith}
 use lib.Dec.{leb, lit<}
 use borrow.Author.Tests.{le-leb, lt-leb, leb-true, leb-false}
-use Rattle.search.proofs.rooms_ok.Statement.{statement}
-use Rattle.search.proofs.rooms_ok.Tie as tie
+use Rattle.accept.proofs.rooms_ok.Statement.{statement}
+use Rattle.accept.proofs.rooms_ok.Tie as tie
 
 mul-if1 : tie.Need-mul-if1
 mul-if1 c = record { fits = lt-of-le-of-lt (mul-le-mul (c .pre .0) (c .pre .1)) (lit< tt) }

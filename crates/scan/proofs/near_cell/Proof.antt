@@ -1,5 +1,5 @@
-use Rattle.map_search.proofs.near_cell.Statement.{statement}
-use Rattle.map_search.proofs.near_cell.Tie as tie
+use Rattle.scan.proofs.near_cell.Statement.{statement}
+use Rattle.scan.proofs.near_cell.Tie as tie
 
 near-at-requires : tie.Need-near-at-requires
 near-at-requires c κs = rw (c .if1 .taken) at (c .before .before .pre)

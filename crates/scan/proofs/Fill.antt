@@ -8,9 +8,8 @@ use native.Mathlib.Nat.{eq-or-lt-of-le, le-of-suc-le-suc}
 use lib.ListN.{set, length, length-set}
 use lib.Seq.{getD-set-other, set-set, set-comm}
 use Rattle.near.specs.Near.{Below}
-use Rattle.map_search.specs.Lines.{placeAt, cellIn, fill}
-use Rattle.map_search.specs.Sound.{Sound}
-use Rattle.map_search.specs.declared.Scan.{Scan}
+use Rattle.scan.specs.Scan.{placeAt, cellIn, fill, Sound}
+use Rattle.scan.specs.declared.Scan.{Scan}
 
 -- ---- indices below n
 pub below-set : (m : List ℕ) (n p v : ℕ) → Below m n → v < n → Below (set m p v) n

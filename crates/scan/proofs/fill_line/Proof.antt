@@ -1,12 +1,12 @@
-use Rattle.map_search.specs.Lines.{placeAt, fill}
+use Rattle.scan.specs.Scan.{placeAt, fill}
 use native.Mathlib.Numerals.{add-one}
 use lib.ListN.{length, length-set}
 use Prim.Native.Nat.{ℕ, _-_, _<_, _≤_}
 use native.Mathlib.Omega.{arith}
 use denote.Ref.{now}
 use mathlib.Core.Path.{_≡_, refl, ap, _∙_}
-use Rattle.map_search.proofs.fill_line.Statement.{statement}
-use Rattle.map_search.proofs.fill_line.Tie as tie
+use Rattle.scan.proofs.fill_line.Statement.{statement}
+use Rattle.scan.proofs.fill_line.Tie as tie
 
 abbrev Inv-loop : tie.InvT-loop
 Inv-loop map₀ s l i a₀ map a = (map ≡ fill s l (λ b. i) map₀ a) × (length map ≡ length map₀) × (a ≤ s .len)

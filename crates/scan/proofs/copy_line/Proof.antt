@@ -1,14 +1,14 @@
 use mathlib.Core.List.{List}
-use Rattle.map_search.proofs.Fill.{fill-other}
-use Rattle.map_search.specs.Lines.{placeAt, cellIn, fill}
+use Rattle.scan.proofs.Fill.{fill-other}
+use Rattle.scan.specs.Scan.{placeAt, cellIn, fill}
 use native.Mathlib.Numerals.{add-one}
 use lib.ListN.{length, set, length-set}
 use Prim.Native.Nat.{ℕ, _-_, _<_, _≤_}
 use native.Mathlib.Omega.{arith}
 use denote.Ref.{now}
 use mathlib.Core.Path.{_≡_, refl, ap, _∙_}
-use Rattle.map_search.proofs.copy_line.Statement.{statement}
-use Rattle.map_search.proofs.copy_line.Tie as tie
+use Rattle.scan.proofs.copy_line.Statement.{statement}
+use Rattle.scan.proofs.copy_line.Tie as tie
 
 abbrev Inv-loop : tie.InvT-loop
 Inv-loop map₀ s l a₀ map a = (map ≡ fill s l (λ b. cellIn map₀ s (l - 1) b) map₀ a) × (length map ≡ length map₀) × (a ≤ s .len)

@@ -2,10 +2,10 @@ use mathlib.Core.Path.{_≡_, refl}
 use Prim.Native.Nat.{_≤_, _-_}
 use lib.ListN.{length, take, drop, length-set}
 use borrow.Author.Needs.{needs}
 use Rattle.lists.specs.Written.{written}
 use Rattle.lists.proofs.Rest.{next, done}
-use Rattle.search.proofs.copy_front.Statement.{statement}
-use Rattle.search.proofs.copy_front.Tie as tie
+use Rattle.lists.proofs.copy_words.Statement.{statement}
+use Rattle.lists.proofs.copy_words.Tie as tie
 
 abbrev Inv-loop : tie.InvT-loop
 Inv-loop from count to₀ i₀ to i =
@@ -18,8 +18,14 @@ abbrev μ-loop : tie.MeasureT-loop
 loop-holds : tie.Need-loop-holds Inv-loop μ-loop
 loop-holds c = (search needs, refl, refl)
 
+mul-to : tie.Need-mul-to Inv-loop μ-loop
+mul-to c = search needs
+
 shared-slice-read-to : tie.Need-shared-slice-read-to Inv-loop μ-loop
 shared-slice-read-to c = search needs
+
+mul-to-2 : tie.Need-mul-to-2 Inv-loop μ-loop
+mul-to-2 c = search needs
 
 slice-write-to : tie.Need-slice-write-to Inv-loop μ-loop
 slice-write-to c = search needs
@@ -49,14 +55,16 @@ returns c =
     let end = done (s .args .count) (s .args .from .now) (s .pre .0) (l .i) (c .loop-test .left) in
     rw end at (l .inv .2)
 
-pub copy-front-spec : {M : Type 1} → statement M
-copy-front-spec =
+pub copy-words-spec : {M : Type 1} → statement M
+copy-words-spec =
     tie.close
     (tie.spec
     Inv-loop
     μ-loop
     loop-holds
+    mul-to
     shared-slice-read-to
+    mul-to-2
     slice-write-to
     add-i
     loop-less

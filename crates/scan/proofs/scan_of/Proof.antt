@@ -1,6 +1,6 @@
 use mathlib.Core.Path.{refl}
-use Rattle.map_search.proofs.scan_of.Statement.{statement}
-use Rattle.map_search.proofs.scan_of.Tie as tie
+use Rattle.scan.proofs.scan_of.Statement.{statement}
+use Rattle.scan.proofs.scan_of.Tie as tie
 
 returns : tie.Need-returns
 returns c = rw (c .if1 .taken) refl

@@ -7,9 +7,8 @@ use native.Mathlib.Nat.{mul-one, mul-le-mul-right, mul-le-mul-left, mul-comm, ad
 use lib.Arith.{digits-lt, digits-div, digits-mod}
 use mathlib.Core.List.{List}
 use lib.ListN.{getD}
-use Rattle.map_search.specs.Lines.{scanOf, cellIn}
-use Rattle.map_search.specs.Sound.{Sound}
-use Rattle.map_search.specs.declared.Scan.{Scan}
+use Rattle.scan.specs.Scan.{scanOf, cellIn, Sound}
+use Rattle.scan.specs.declared.Scan.{Scan}
 
 digits-same : (w l a k b : ℕ) → a < w → b < w → l * w + a ≡ k * w + b → (l ≡ k) × (a ≡ b)
 digits-same w l a k b p q e =
