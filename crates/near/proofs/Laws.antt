@@ -28,6 +28,22 @@ away m w zero zero h = absurd (omega arith)
 away m w zero (suc x) h = refl
 away m w (suc y) x h = refl
 
+-- each that comes first does so once, and is below n; there are one to three of them
+pub around-firsts : (m : List ℕ) (w y x n : ℕ) → Below m n → 0 < y + x → FirstsOk (around byThree m w y x) n
+unfolding around cell elem
+around-firsts m w zero zero n b h = absurd (omega arith)
+around-firsts m w zero (suc x) n b h = record { distinct = (refl, tt); under = (b _, tt) }
+around-firsts m w (suc y) zero n b h = record { distinct = (refl, tt); under = (b _, tt) }
+around-firsts m w (suc y) (suc x) n b h = three-ok n _ _ _ (b _) (b _) (b _)
+
+pub around-count : (m : List ℕ) (w y x : ℕ) → 0 < y + x
+    → (1 ≤ length (around byThree m w y x .firsts)) × (length (around byThree m w y x .firsts) ≤ 3)
+unfolding around
+around-count m w zero zero h = absurd (omega arith)
+around-count m w zero (suc x) h = (omega arith, omega arith)
+around-count m w (suc y) zero h = (omega arith, omega arith)
+around-count m w (suc y) (suc x) h = three-count _ _ _
+
 -- nothing is lost of at most three that come first
 around-held : (a : Around) → length (a .firsts) ≤ 3 → aroundOf (held a) ≡ a
 around-held a h =

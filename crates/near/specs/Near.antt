@@ -1,11 +1,11 @@
--- The context and the neighbours of a cell as the map search holds them, and what it needs of them. Assumes nothing.
-use Prim.Native.Nat.{ℕ, zero, suc, _+_, _≤_, _<_}
+-- The context and the neighbours of a cell as the map search and the reading hold them, and what they need of them. Assumes nothing.
+use Prim.Native.Nat.{ℕ, zero, suc, _+_, _-_, _≤_, _<_, min, max}
 use mathlib.Core.Bool.{false, cond}
 use mathlib.Core.Path.{_≡_}
 use mathlib.Core.List.{List, [], _∷_}
-use lib.Dec.{eqb, ltb}
+use lib.Dec.{eqb, ltb, leb}
 use lib.ListN.{getD, take, length}
-use Rattle.lists.specs.Counted.{elem}
+use Rattle.lists.specs.Counted.{elem, bit}
 use Rattle.context.specs.Order.{Around, byThree, around, others}
 use Rattle.context.specs.Parts.{held}
 use Rattle.context.specs.declared.Near.{Near}
@@ -44,3 +44,17 @@ pub record Usable (m : Near) (n : ℕ) : Type 0 where
 -- the rank of index c where v alone comes first
 abbrev pub rankBy : ℕ → ℕ → ℕ
 rankBy c v = cond (eqb c v) 0 (cond (ltb c v) (suc c) c)
+
+-- the number after j where x is at or below it, else j
+abbrev pub past : ℕ → ℕ → ℕ
+past x j = j + bit (leb x j)
+
+-- j counted past three indices, from the least on
+abbrev pub pastAll : ℕ → ℕ → ℕ → ℕ → ℕ
+pastAll a b c j = past (max (max a b) c) (past (max (min a b) (min (max a b) c)) (past (min (min a b) c) j))
+
+-- the index at a rank, without the order: one that comes first, or the rank counted past them; none reaches 254
+unfoldable pub indexAt : Near → ℕ → ℕ
+indexAt m r =
+    cond (ltb r (m .count)) (getD (m .first ∷ m .second ∷ m .third ∷ []) r 0)
+    (pastAll (m .first) (cond (leb 2 (m .count)) (m .second) 254) (cond (leb 3 (m .count)) (m .third) 255) (r - m .count))
