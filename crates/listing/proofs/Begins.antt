@@ -36,7 +36,7 @@ orient-splits w h s t a b = go (orientSent w h) s t a b
     go true s t a b = cons (λ e. nil (bit-injective s t (word-injective 1 1 1 _ _ refl e)))
     go false s t a b = nil (plain s a ∙ sym (plain t b))
 
-fits : (w h bd : ℕ) (p : Palette) → Facts w h bd p
+pub fits : (w h bd : ℕ) (p : Palette) → Facts w h bd p
     → Fits (p .transposed) w (linesOf (p .transposed) w h) (lengthOf (p .transposed) w h) (length (p .colors)) (p .flags) (p .map)
 fits w h bd p f = record { index = line-index w h bd p f; line = f .line }
 

@@ -23,7 +23,7 @@ pub record Agree (w : ℕ) (m m′ : List ℕ) (y x : ℕ) : Type 0 where
   pub diag : (k j : ℕ) → y ≡ suc k → x ≡ suc j → cell m w k j ≡ cell m′ w k j
 
 module _ (kind : ℕ) (three : ℕ → ℕ → ℕ → Around) (w : ℕ) (m m′ : List ℕ) where
-  around-agree : (y x : ℕ) → Agree w m m′ y x → around three m w y x ≡ around three m′ w y x
+  pub around-agree : (y x : ℕ) → Agree w m m′ y x → around three m w y x ≡ around three m′ w y x
   unfolding around
   around-agree zero zero g = refl
   around-agree zero (suc x) g = rw (g .left x refl)

@@ -20,7 +20,7 @@ use Rattle.literals.proofs.Words.{word-injective}
 use Rattle.listing.proofs.Cells.{Agree, cell-tells}
 
 -- what holds below n and at n holds below n + 1
-one-more : (P : ℕ → Type 0) (n : ℕ) → ((j : ℕ) → j < n → P j) → P n → (j : ℕ) → j < suc n → P j
+pub one-more : (P : ℕ → Type 0) (n : ℕ) → ((j : ℕ) → j < n → P j) → P n → (j : ℕ) → j < suc n → P j
 one-more P n f p j h =
     let go : (suc j ≡ suc n) ⊎ (suc j < suc n) → P j =
     elim [ inl e ↦ (let q : j ≡ n = omega arith in rw q p) | inr l ↦ f j (omega arith) ] in
@@ -32,13 +32,13 @@ pub record Fits (t : Bool) (w lines len n : ℕ) (fs m : List ℕ) : Type 0 wher
   pub line : (l : ℕ) → l < lines → lineOk (getD fs l 0) (lineCell t m w) len l ≡ true
 
 -- two maps agree along the first a cells of line l; in the first l lines
-abbrev Row : Bool → ℕ → List ℕ → List ℕ → ℕ → ℕ → Type 0
+abbrev pub Row : Bool → ℕ → List ℕ → List ℕ → ℕ → ℕ → Type 0
 Row t w m m′ l a = (j : ℕ) → j < a → lineCell t m w l j ≡ lineCell t m′ w l j
 
-abbrev Seen : Bool → ℕ → ℕ → List ℕ → List ℕ → ℕ → Type 0
+abbrev pub Seen : Bool → ℕ → ℕ → List ℕ → List ℕ → ℕ → Type 0
 Seen t w len m m′ l = (k : ℕ) → k < l → Row t w m m′ k len
 
-agree : (t : Bool) (w len : ℕ) (m m′ : List ℕ) (l a : ℕ) → a < len → Seen t w len m m′ l → Row t w m m′ l a
+pub agree : (t : Bool) (w len : ℕ) (m m′ : List ℕ) (l a : ℕ) → a < len → Seen t w len m m′ l → Row t w m m′ l a
     → Agree w m m′ (rowAt t l a) (colAt t l a)
 unfolding lineCell
 agree false w len m m′ l a h s r =
@@ -107,7 +107,7 @@ module _ (t : Bool) (w lines len n : ℕ) (fs fs′ m m′ : List ℕ) (p : Fits
 -- ---- from the lines to the lists
 
 -- maps that agree at each cell are the same
-maps-same : (w h : ℕ) (m m′ : List ℕ) → 0 < w → length m ≡ w * h → length m′ ≡ w * h
+pub maps-same : (w h : ℕ) (m m′ : List ℕ) → 0 < w → length m ≡ w * h → length m′ ≡ w * h
     → ((y x : ℕ) → y < h → x < w → cell m w y x ≡ cell m′ w y x) → m ≡ m′
 unfolding cell
 maps-same w h m m′ z e e′ s =
@@ -115,7 +115,7 @@ maps-same w h m m′ z e e′ s =
     let y : i / w < h = div-lt-iff-lt-mul z .1 (omega arith) in
     rw (div-add-mod' i w) at (s (i / w) (i % w) y (mod-lt i z))
 
-seen-at : (t : Bool) (w h : ℕ) (m m′ : List ℕ) → Seen t w (lengthOf t w h) m m′ (linesOf t w h)
+pub seen-at : (t : Bool) (w h : ℕ) (m m′ : List ℕ) → Seen t w (lengthOf t w h) m m′ (linesOf t w h)
     → (y x : ℕ) → y < h → x < w → cell m w y x ≡ cell m′ w y x
 unfolding lineCell
 seen-at false w h m m′ s y x g k = s y g x k

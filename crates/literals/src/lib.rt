@@ -99,7 +99,7 @@ fn step_bits(colors: [u16; 8], n: usize, bd: u32) -> u32
 }
 
 // The width after a step: what is left above the level reached cuts it.
-fn cut_bits(bd: u32, b: u32, level: Level) -> u32
+pub fn cut_bits(bd: u32, b: u32, level: Level) -> u32
     requires { ⌜ (bd ≤ 12) × (level .0 ≤ 2 ^ bd - 1) ⌝ }
     ensures { λ r. ⌜ r ≡ cutBits bd b (level .0) ⌝ }
 {

@@ -1,0 +1,164 @@
+-- One step at a place of a list, and readers one after the other by the places that they reach. Assumes nothing.
+use mathlib.Core.Path.{_≡_, refl, sym, ap, _∙_}
+use mathlib.Core.Bool.{Bool, true, false, cond, _&&_}
+use mathlib.Core.List.{List, [], _∷_}
+use mathlib.Core.Logic.{_⊎_, inl, inr, ⊎-elim}
+use Prim.Native.Nat.{ℕ, zero, suc, _+_, _-_, _<_, _≤_}
+use native.Mathlib.Nat.{eq-or-lt-of-le, le-of-suc-le-suc}
+use native.Mathlib.Numerals.{add-one}
+use native.Mathlib.Omega.{arith}
+use lib.Dec.{eqb, ltb, leb}
+use lib.ListN.{length, getD, drop, drop-of-length-le}
+use lib.Seq.{drop-cons}
+use borrow.Author.Tests.{eqb-true, eqb-false, eq-eqb, ne-eqb, lt-ltb, le-ltb, le-leb, lt-leb, ltb-true, ltb-false, leb-true}
+use Rattle.lists.proofs.Choice.{and-l, and-r}
+use Rattle.literals.specs.Words.{word}
+use Rattle.reader.specs.Reader.{Got, got, fault, after, Reader, _>>=_, ret, isDue, due, readUpTo}
+use Rattle.reader.specs.Steps.{stepAt, gotBy, told, Took}
+use Rattle.reader.specs.declared.Place.{Place}
+use Rattle.reader.specs.declared.Taken.{Taken}
+use Rattle.reader.specs.declared.Step.{Step}
+use Rattle.reader.specs.declared.Step.the-variants.{Second, Ended, Wrong}
+
+-- ---- the three answers of a step
+
+module _ (ws : List ℕ) (at kind first limit : ℕ) where
+  abbrev c : ℕ
+  c = getD ws at 0
+
+  abbrev least : ℕ
+  least = word kind first 0
+
+  pub step-ended : length ws ≤ at → Ended ≡ stepAt ws at kind first limit
+  unfolding stepAt
+  step-ended h = rw (le-ltb at (length ws) h) refl
+
+  pub step-below : at < length ws → c < least → Wrong ≡ stepAt ws at kind first limit
+  unfolding stepAt isDue
+  step-below h k = rw (lt-ltb at (length ws) h, lt-leb least c k) refl
+
+  pub step-second : at < length ws → least ≤ c → c - least < limit → Second (c - least) ≡ stepAt ws at kind first limit
+  unfolding stepAt isDue word
+  step-second h k l = rw (lt-ltb at (length ws) h, le-leb least c k, lt-ltb c (word kind first limit) (omega arith)) refl
+
+  pub step-above : at < length ws → least ≤ c → limit ≤ c - least → Wrong ≡ stepAt ws at kind first limit
+  unfolding stepAt isDue word
+  step-above h k l = rw (lt-ltb at (length ws) h, le-leb least c k, le-ltb c (word kind first limit) (omega arith)) refl
+
+-- ---- the step and the place after it
+
+module _ (ws : List ℕ) (at kind first limit : ℕ) where
+  -- a step at a place is the reader's step on what is left there
+  step-due : due kind first limit (drop at ws) ≡ gotBy (stepAt ws at kind first limit) (drop (at + 1) ws)
+  unfolding due stepAt
+  step-due = go (ltb at (length ws)) refl
+    where
+      x : ℕ
+      x = getD ws at 0
+
+      inner : (b : Bool) → cond b (got (x - word kind first 0) (drop (at + 1) ws)) (fault 21) ≡ gotBy (cond b (Second (x - word kind first 0)) Wrong) (drop (at + 1) ws)
+      inner true = refl
+      inner false = refl
+
+      go : (b : Bool) → ltb at (length ws) ≡ b
+          → due kind first limit (drop at ws) ≡ gotBy (cond b (cond (isDue kind first limit x) (Second (x - word kind first 0)) Wrong) Ended) (drop (at + 1) ws)
+      go true e = rw (drop-cons ws at 0 (ltb-true at (length ws) e), ← add-one at) (inner (isDue kind first limit x))
+      go false e = rw (drop-of-length-le ws {i = at} (ltb-false at (length ws) e)) refl
+
+  step-sure : (v : ℕ) → stepAt ws at kind first limit ≡ Second v → (at < length ws) × (v < limit)
+  unfolding stepAt isDue word
+  step-sure v = go (ltb at (length ws)) (leb (word kind first 0) x) (ltb x (word kind first limit)) refl refl refl
+    where
+      x : ℕ
+      x = getD ws at 0
+
+      differ : {s : Step} → s ≡ Second v → (s ≡ Wrong) ⊎ (s ≡ Ended) → ⊥
+      differ e = elim [ inl p ↦ (let z : _≡_ {A = ℕ} 0 1 = cc in omega arith) | inr p ↦ (let z : _≡_ {A = ℕ} 0 1 = cc in omega arith) ]
+
+      go : (a b d : Bool) → ltb at (length ws) ≡ a → leb (word kind first 0) x ≡ b → ltb x (word kind first limit) ≡ d
+          → cond a (cond (b && d) (Second (x - word kind first 0)) Wrong) Ended ≡ Second v → (at < length ws) × (v < limit)
+      go true true true p q r e =
+          let k : x - word kind first 0 ≡ v = cc in
+          (ltb-true at (length ws) p, omega (arith, leb-true (word kind first 0) x q, ltb-true x (word kind first limit) r))
+      go true true false p q r e = absurd (differ e (inl refl))
+      go true false d p q r e = absurd (differ e (inl refl))
+      go false b d p q r e = absurd (differ e (inr refl))
+
+  pub second-inside : (v : ℕ) → stepAt ws at kind first limit ≡ Second v → at < length ws
+  second-inside v e = step-sure v e .0
+
+  pub took-second : (v : ℕ) → stepAt ws at kind first limit ≡ Second v
+      → Took ws at kind first limit (record { second = v; place = record { at = at + 1; fault = 0 } })
+  unfolding told
+  took-second v e = record {
+    reads = step-due ∙ ap (λ (s : Step). gotBy s (drop (at + 1) ws)) e;
+    below = λ h. step-sure v e .1;
+    sure = λ h. step-sure v e .1;
+  }
+
+  pub took-ended : stepAt ws at kind first limit ≡ Ended
+      → Took ws at kind first limit (record { second = 0; place = record { at = at; fault = 20 } })
+  unfolding told
+  took-ended e = record {
+    reads = step-due ∙ ap (λ (s : Step). gotBy s (drop (at + 1) ws)) e;
+    below = λ h. h;
+    sure = λ h. absurd (omega arith);
+  }
+
+  pub took-wrong : stepAt ws at kind first limit ≡ Wrong
+      → Took ws at kind first limit (record { second = 0; place = record { at = at; fault = 21 } })
+  unfolding told
+  took-wrong e = record {
+    reads = step-due ∙ ap (λ (s : Step). gotBy s (drop (at + 1) ws)) e;
+    below = λ h. h;
+    sure = λ h. absurd (omega arith);
+  }
+
+-- ---- readers one after the other
+
+-- a value made of the one told
+pub told-made : {A B : Type 0} (p : Place) (a : A) (ws : List ℕ) (f : A → B) → after (told p a ws) (λ x. ret (f x)) ≡ told p (f a) ws
+unfolding told
+told-made {A} {B} p a ws f =
+    let go : (b : Bool) → after (cond b (got a (drop (p .at) ws)) (fault (p .fault))) (λ x. ret (f x)) ≡ cond b (got (f a) (drop (p .at) ws)) (fault (p .fault)) =
+    elim [ true ↦ refl | false ↦ refl ] in
+    go (eqb (p .fault) 0)
+
+-- after a fault nothing else is read, and the value is of no account
+pub told-fault : {A B : Type 0} (p : Place) (a : A) (ws : List ℕ) (f : A → Reader B) (b : B) → (p .fault ≡ 0 → ⊥)
+    → after (told p a ws) f ≡ told p b ws
+unfolding told
+told-fault p a ws f b h = rw (ne-eqb (p .fault) 0 h) refl
+
+pub told-next : {A B : Type 0} (p : Place) (a : A) (ws : List ℕ) (f : A → Reader B) → p .fault ≡ 0
+    → after (told p a ws) f ≡ f a (drop (p .at) ws)
+unfolding told
+told-next p a ws f h = rw (eq-eqb (p .fault) 0 h) refl
+
+pub told-got : {A : Type 0} (p : Place) (a : A) (ws : List ℕ) → p .fault ≡ 0 → told p a ws ≡ got a (drop (p .at) ws)
+unfolding told
+told-got p a ws h = rw (eq-eqb (p .fault) 0 h) refl
+
+pub told-any : {A : Type 0} (p : Place) (a b : A) (ws : List ℕ) → (p .fault ≡ 0 → ⊥) → told p a ws ≡ told p b ws
+unfolding told
+told-any p a b ws h = rw (ne-eqb (p .fault) 0 h) refl
+
+-- ---- readers in a loop
+
+module _ {S : Type 0} (f : ℕ → S → Reader S) (s₀ : S) (vs ws : List ℕ) where
+  pub up-next : (i : ℕ) (s : S) (p r : Place) (s′ : S) → readUpTo f i s₀ vs ≡ told p s ws → p .fault ≡ 0
+      → f i s (drop (p .at) ws) ≡ told r s′ ws → readUpTo f (i + 1) s₀ vs ≡ told r s′ ws
+  unfolding readUpTo
+  up-next i s p r s′ e h k = rw add-one (ap (λ (g : Got S). after g (f i)) e ∙ told-next p s ws (f i) h ∙ k)
+
+  -- after a fault no later one is read
+  pub up-fault : (n i : ℕ) (r : Place) (s s′ : S) → i ≤ n → readUpTo f i s₀ vs ≡ told r s ws → (r .fault ≡ 0 → ⊥) → readUpTo f n s₀ vs ≡ told r s′ ws
+  unfolding readUpTo
+  up-fault zero i r s s′ h e k =
+      let z : i ≡ zero = omega arith in
+      ap (λ (j : ℕ). readUpTo f j s₀ vs) (sym z) ∙ e ∙ told-any r s s′ ws k
+  up-fault (suc n) i r s s′ h e k =
+      let deeper : i ≤ n → readUpTo f n s₀ vs ≡ told r s′ ws = λ l. up-fault n i r s s′ l e k in
+      ⊎-elim (λ q. ap (λ (j : ℕ). readUpTo f j s₀ vs) (sym q) ∙ e ∙ told-any r s s′ ws k)
+      (λ l. ap (λ (g : Got S). after g (f n)) (deeper (le-of-suc-le-suc l)) ∙ told-fault r s′ ws (f n) s′ k)
+      (eq-or-lt-of-le h)
