@@ -12,8 +12,7 @@ use Rattle.accept.specs.Accepted.{lineOk, mapOk}
 use Rattle.context.specs.Map.{cell, lineCell, linesOf, lengthOf}
 use Rattle.near.specs.Near.{Below}
 use Rattle.scan.specs.Scan.{scanOf, cellIn, Sound}
-use Rattle.scan.proofs.Scans.{line-cell}
-use Rattle.search.proofs.Lengths.{lines-are}
+use Rattle.scan.proofs.Scans.{line-cell, lines-are}
 use Rattle.found.proofs.Lines.{line-same}
 use Rattle.found.proofs.Valid.{Valid}
 

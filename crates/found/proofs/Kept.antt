@@ -16,7 +16,7 @@ use Rattle.groups.proofs.Colors.{colors-take, centers-length}
 use Rattle.context.specs.Map.{linesOf}
 use Rattle.scan.specs.Scan.{scanOf, Sound}
 use Rattle.scan.specs.declared.Scan.{Scan}
-use Rattle.scan.proofs.Scans.{scan-sound}
+use Rattle.scan.proofs.Scans.{scan-sound, lines-are}
 use Rattle.literals.specs.Literals.{levelsOk}
 use Rattle.accept.specs.Palette.{Palette, firstColors, paletteOf}
 use Rattle.accept.specs.Accepted.{sidesOk, depthOk, colorsOk, orientOk, cacheOk, countsOk, Accepted}
@@ -25,8 +25,7 @@ use Rattle.counts.specs.Counts.{orientSent}
 use Rattle.sizes.specs.Sizes.{headOf}
 use Rattle.search.specs.Search.{Standing, histogramIn}
 use Rattle.search.proofs.Passed.{Ready}
-use Rattle.search.proofs.Zeros.{zeros-below}
-use Rattle.search.proofs.Lengths.{lines-are}
+use Rattle.lists.proofs.Zeros.{zeros-below}
 use Rattle.search.proofs.Colors.{levelsIn, is-histogram, levels-ok}
 use Rattle.search.proofs.Kept.{Kept, kept-cells, kept-flags}
 use Rattle.found.proofs.Valid.{Valid, found-valid}

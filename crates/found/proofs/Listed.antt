@@ -19,7 +19,7 @@ use Rattle.accept.specs.Answer.{refusedBy}
 use Rattle.search.specs.Search.{Standing, foundIn, searchNumber, paletteBy}
 use Rattle.search.specs.declared.Best.{Best}
 use Rattle.accept.specs.declared.Palette.{Palette as Answer}
-use Rattle.search.proofs.Lengths.{lines-are}
+use Rattle.scan.proofs.Scans.{lines-are}
 use Rattle.search.proofs.Passed.{all-passed}
 use Rattle.search.proofs.Kept.{kept-cells, kept-flags}
 use Rattle.search.proofs.Finds.{finds}

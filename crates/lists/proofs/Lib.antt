@@ -4,3 +4,4 @@ pub mod Counted
 pub mod Elem
 pub mod Rest
 pub mod Written
+pub mod Zeros

@@ -29,11 +29,11 @@ eight-front cs n e = take-at cs _ n e
 abbrev pub colorsIn : Held → List ℕ
 colorsIn h = take (h .count) (h .colors)
 
+pub length-eight : (h : Held) (n : ℕ) → Sound h n → n ≤ 8 → length (h .colors) ≡ 8
+length-eight h n s m = ap length (s .eight) ∙ eight-long (colorsIn h) (omega (arith, length-take (h .count) (h .colors), s .few))
+
 pub length-held : (h : Held) (n : ℕ) → Sound h n → n ≤ 8 → length (colorsIn h) ≡ h .count
-length-held h n s m =
-    let few : length (colorsIn h) ≤ 8 = omega (arith, length-take (h .count) (h .colors), s .few) in
-    let long : length (h .colors) ≡ 8 = ap length (s .eight) ∙ eight-long (colorsIn h) few in
-    length-take-le (h .count) (h .colors) (omega (arith, s .few))
+length-held h n s m = length-take-le (h .count) (h .colors) (omega (arith, s .few, length-eight h n s m))
 
 -- no colour yet
 pub sound-none : (p : Place) (n : ℕ) → Sound (record { count = 0; colors = replicate 8 0; place = p }) n

@@ -1,4 +1,4 @@
--- Both orientations of a block are sound scans. Assumes nothing.
+-- Both orientations of a block are sound scans; their cells and lines. Assumes nothing.
 use Prim.Native.Nat.{ℕ, _+_, _*_, _/_, _%_, _≤_, _<_}
 use mathlib.Core.Bool.{Bool, true, false, cond}
 use mathlib.Core.Path.{_≡_, refl, sym, ap, _∙_}
@@ -7,6 +7,8 @@ use native.Mathlib.Nat.{mul-one, mul-le-mul-right, mul-le-mul-left, mul-comm, ad
 use lib.Arith.{digits-lt, digits-div, digits-mod}
 use mathlib.Core.List.{List}
 use lib.ListN.{getD}
+use Rattle.lists.proofs.Choice.{either-way}
+use Rattle.context.specs.Map.{linesOf, lengthOf}
 use Rattle.scan.specs.Scan.{scanOf, cellIn, Sound}
 use Rattle.scan.specs.declared.Scan.{Scan}
 
@@ -62,3 +64,13 @@ sound-mono s N M sound more most = record {
 pub line-cell : (m : List ℕ) (w h : ℕ) (t : Bool) (l a : ℕ) → cellIn m (scanOf w h t) l a ≡ getD m (cond t a l * w + cond t l a) 0
 line-cell m w h true l a = rw (mul-one l, add-comm l) refl
 line-cell m w h false l a = rw (mul-one a) refl
+
+-- ---- a block's lines, how many and how long
+
+pub lines-are : (w h : ℕ) (t : Bool) → (scanOf w h t .lines ≡ linesOf t w h) × (scanOf w h t .len ≡ lengthOf t w h)
+lines-are w h true = (refl, refl)
+lines-are w h false = (refl, refl)
+
+-- a room that holds either side holds one flag per line
+pub lines-most : (t : Bool) (w h room : ℕ) {count : ℕ} → count ≡ linesOf t w h → w ≤ room → h ≤ room → count ≤ room
+lines-most t w h room e wide high = rw e (either-way (λ n. n ≤ room) t w h wide high)

@@ -20,7 +20,7 @@ use Rattle.search.specs.declared.Best.{Best}
 use Rattle.accept.specs.declared.Palette.{Palette}
 use Rattle.search.specs.Search.{Standing, searched, histogramIn, foundIn, paletteBy}
 use Rattle.search.specs.Steps.{Passed, Stands, Written}
-use Rattle.search.proofs.Lengths.{lines-are}
+use Rattle.scan.proofs.Scans.{lines-are}
 use Rattle.search.proofs.Passed.{Ready, ready-of, passed-with}
 use Rattle.search.proofs.Colors.{levelsIn, levels-top, is-histogram}
 use Rattle.search.proofs.Kept.{Kept, kept-cells, kept-flags}

@@ -25,7 +25,7 @@ use Rattle.sizes.specs.Sizes.{headOf, sizeOf}
 use Rattle.sizes.proofs.Levels.{SizeTo, order-each, order-some}
 use Rattle.search.specs.Search.{histogramIn, none, tried, triedBoth, visited, searched}
 use Rattle.search.proofs.Passed.{Ready}
-use Rattle.search.proofs.Zeros.{zeros-below}
+use Rattle.lists.proofs.Zeros.{zeros-below}
 use Rattle.search.proofs.Colors.{color-within}
 use Rattle.search.proofs.Heads.{head-under, lb-under}
 use Rattle.search.proofs.Kept.{Kept, built, judged-first, both-kept, visited-kept}

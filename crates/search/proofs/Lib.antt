@@ -1,5 +1,4 @@
 pub mod Eight
-pub mod Zeros
 pub mod Lengths
 pub mod Mild
 pub mod Narrow

@@ -23,15 +23,14 @@ use Rattle.map_search.specs.Parts.{Priced, Built}
 use Rattle.scan.specs.declared.Scan.{Scan}
 use Rattle.map_search.specs.declared.MapResult.{MapResult}
 use Rattle.map_search.specs.declared.MapResult.the-variants.{Found}
-use Rattle.scan.proofs.Scans.{scan-sound}
+use Rattle.scan.proofs.Scans.{scan-sound, lines-are, lines-most}
 use Rattle.sizes.specs.declared.Block.{Block}
 use Rattle.sizes.specs.declared.Size.{Size}
 use Rattle.search.specs.declared.Best.{Best}
 use Rattle.search.specs.Search.{Standing, judged, mapIn, tried}
 use Rattle.search.specs.Steps.{Passed, Stands}
 use Rattle.search.proofs.Passed.{Ready}
-use Rattle.search.proofs.Zeros.{zeros-below}
-use Rattle.search.proofs.Lengths.{lines-are, lines-most}
+use Rattle.lists.proofs.Zeros.{zeros-below}
 
 -- ---- a found map
 module _ (b : Block) (z : Size) (t : Bool) {best : Best} (error bits : Float) (cells lines : List ℕ) {map₀ flags₀ : List ℕ}

@@ -5,7 +5,7 @@ use native.Mathlib.Nat.{lt-of-le-of-lt, mul-le-mul, min-le-left}
 use denote.Ref.{now}
 use lib.Dec.{lit<}
 use lib.ListN.{length}
-use Rattle.search.proofs.Lengths.{lines-most}
+use Rattle.scan.proofs.Scans.{lines-most}
 use Rattle.search.proofs.Colors.{levelsIn, is-histogram}
 use Rattle.search.proofs.Passed.{ready-of}
 use Rattle.search.proofs.Aside.{take-fits, passed-aside, known, written-found, as-palette}

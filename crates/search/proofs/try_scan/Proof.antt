@@ -4,8 +4,8 @@ use Prim.Native.Nat.{ℕ, _*_, _≤_}
 use native.Mathlib.Nat.{mul-le-mul, lt-of-le-of-lt}
 use lib.Dec.{lit<}
 use lib.ListN.{replicate}
-use Rattle.search.proofs.Zeros.{take-zeros}
-use Rattle.search.proofs.Lengths.{lines-most}
+use Rattle.lists.proofs.Zeros.{take-zeros}
+use Rattle.scan.proofs.Scans.{lines-most}
 use borrow.Author.Needs.{needs}
 use Rattle.search.proofs.Passed.{ready-of}
 use Rattle.search.proofs.try_scan.Statement.{statement}

@@ -1,0 +1,83 @@
+use mathlib.Core.Path.{sym, ap, _∙_}
+use Prim.Native.Nat.{ℕ, _*_, _≤_}
+use native.Mathlib.Nat.{mul-le-mul, lt-of-le-of-lt}
+use native.Mathlib.Omega.{arith}
+use lib.Dec.{lit<}
+use lib.ListN.{replicate, length-replicate}
+use lib.Seq.{length-take-le}
+use borrow.Author.Needs.{needs}
+use Rattle.lists.proofs.Zeros.{take-zeros}
+use Rattle.scan.proofs.Scans.{lines-are, lines-most}
+use Rattle.reading.proofs.Answers.{sizes}
+use Rattle.reading.proofs.read_aside.Statement.{statement}
+use Rattle.reading.proofs.read_aside.Tie as tie
+
+cells-few : (s : tie.Start) → s .args .b .width * s .args .b .height ≤ 4096
+cells-few s = let z = sizes _ _ _ _ _ _ (s .pre .passed) in mul-le-mul (z .wideMost) (z .highMost)
+
+marks-few : (c : tie.After-lines-of) → c .lines-of .result ≤ 64
+marks-few c =
+    let s = c .before .before .before .before .before in
+    let b = s .args .b in
+    let z = sizes _ _ _ _ _ _ (s .pre .passed) in
+    lines-most (b .transposed) (b .width) (b .height) 64 (c .lines-of .ensures) (z .wideMost) (z .highMost)
+
+lines-of-requires : tie.Need-lines-of-requires
+lines-of-requires c κs = search needs
+
+mul-cells : tie.Need-mul-cells
+mul-cells c = record { fits = lt-of-le-of-lt (cells-few (c .before .before .before .before .before .before)) (lit< tt) }
+
+array-borrow-prefix-cells : tie.Need-array-borrow-prefix-cells
+array-borrow-prefix-cells c = cells-few (c .before .before .before .before .before .before)
+
+slice-aggregate-read-map : tie.Need-slice-aggregate-read-map
+slice-aggregate-read-map c = sym (length-take-le {A = ℕ} _ (replicate 4096 0) (cells-few (c .before .before .before .before .before .before .before)))
+
+array-borrow-prefix-marks : tie.Need-array-borrow-prefix-marks
+array-borrow-prefix-marks c = marks-few (c .before .before)
+
+slice-aggregate-read-map-2 : tie.Need-slice-aggregate-read-map-2
+slice-aggregate-read-map-2 c = sym (length-take-le {A = ℕ} _ (replicate 64 0) (marks-few (c .before .before .before)))
+
+slice-aggregate-read-map-3 : tie.Need-slice-aggregate-read-map-3
+slice-aggregate-read-map-3 c = search needs
+
+read-map-requires : tie.Need-read-map-requires
+read-map-requires c κs =
+    let l = c .before .before .before .before .before .before in
+    let s = c .before .before .before .before .before .before .before .before .before .before .before in
+    let b = s .args .b in
+    let count = l .lines-of .ensures ∙ sym (lines-are (b .width) (b .height) (b .transposed) .0) in (
+      s .pre,
+      (
+        take-zeros _ 4096 (cells-few s),
+        take-zeros _ 64 (marks-few l) ∙ ap (λ k. replicate {A = ℕ} k 0) count,
+        omega (arith, length-replicate {A = ℕ} 4234 0),
+      ),
+    )
+
+same-length : tie.Need-same-length
+same-length c = search needs
+
+same-length-2 : tie.Need-same-length-2
+same-length-2 c = search needs
+
+returns : tie.Need-returns
+returns c = search needs
+
+pub read-aside-spec : {M : Type 1} → statement M
+read-aside-spec =
+    tie.close
+    (tie.spec
+    lines-of-requires
+    mul-cells
+    array-borrow-prefix-cells
+    slice-aggregate-read-map
+    array-borrow-prefix-marks
+    slice-aggregate-read-map-2
+    slice-aggregate-read-map-3
+    read-map-requires
+    same-length
+    same-length-2
+    returns)

@@ -1,0 +1,4 @@
+pub mod Reading
+pub mod Undo
+pub mod Steps
+pub mod Examples

@@ -1,0 +1,211 @@
+// A call list read back. `read` answers for all arguments; the others serve it.
+use accept::Palette;
+use reader::Place;
+use reader::Taken;
+use reader::take;
+ghost use mathlib.Core.Path.{_≡_};
+ghost use mathlib.Core.List.{[]};
+ghost use Prim.Native.Nat.{_*_, _≤_};
+ghost use lib.Dec.{eqb};
+ghost use lib.ListN.{length, take, drop, replicate};
+ghost use Rattle.scan.specs.Scan.{scanOf};
+ghost use Rattle.accept.specs.Palette.{paletteOf};
+ghost use Rattle.reader.specs.Steps.{told};
+ghost use Rattle.reading.specs.Reading.{readOrient, sameList, relists, limits, reading, Reads};
+ghost use Rattle.reading.specs.Steps.{Headed};
+
+// What is known ahead of the map: the block, its colours and orientation, and the place reached in the list.
+pub struct Head {
+    pub width: usize,
+    pub height: usize,
+    pub bd: u32,
+    pub n: usize,
+    pub colors: [u16; 8],
+    pub transposed: bool,
+    pub at: usize,
+}
+
+// The orientation bit, where it is sent; else 0, plain.
+fn read_orient(words: &[u32], at: usize, w: usize, h: usize) -> Taken
+    ensures { λ r. ⌜ readOrient w h (drop at (now (words .entry))) ≡ told (r .place) (eqb (r .second) 1) (now (words .entry)) ⌝ }
+{
+    if counts::orient_sent(w, h) {
+        return take(words, at, 1, 1, 2);
+    }
+    Taken {
+        second: 0,
+        place: Place { at, fault: 0 },
+    }
+}
+
+// Whether the first `count` words are the whole list.
+fn same_words(aside: &[u32], count: usize, words: &[u32]) -> bool
+    requires { ⌜ count ≤ length (now aside) ⌝ }
+    ensures { λ r. ⌜ r ≡ sameList (take count (now (aside .entry))) (now (words .entry)) ⌝ }
+{
+    if count != words.len() {
+        return false;
+    }
+    let mut i: usize = 0;
+    while i < count {
+        if aside[i] != words[i] {
+            return false;
+        }
+        i += 1;
+    }
+    true
+}
+
+// The numbers 1, 2, 13 and 7, or 0.
+fn limits(width: usize, height: usize, bd: u32, cached: usize, cells: usize, lines: usize) -> u32
+    ensures { λ r. ⌜ r ≡ limits width height bd cached cells lines ⌝ }
+{
+    if !accept::sides_ok(width, height) {
+        return 1;
+    }
+    if !accept::within(8, 12, bd as usize) {
+        return 2;
+    }
+    if 64 < cached {
+        return 13;
+    }
+    if !accept::rooms_ok(width, height, cells, lines) {
+        return 7;
+    }
+    0
+}
+
+// Whether the listing accepts the palette, and would write that list.
+fn relists(
+    b: Head,
+    map: &[u8],
+    flags: &[u8],
+    cache: &[u16],
+    words: &[u32],
+    aside: &mut [u32],
+) -> bool
+    requires { ⌜ 4234 ≤ length (now aside) ⌝ }
+    ensures { λ r. ⌜ r ≡ relists (b .width) (b .height) (b .bd) (now (cache .entry))
+        (paletteOf (b .colors) (b .n) (b .transposed) (now (map .entry)) (now (flags .entry))) (now (words .entry)) ⌝ }
+{
+    let colors = b.colors;
+    let listed = listing::list(
+        b.width,
+        b.height,
+        b.bd,
+        colors,
+        b.n,
+        b.transposed,
+        map,
+        flags,
+        cache,
+        aside,
+    );
+    if listed.number != 0 {
+        return false;
+    }
+    same_words(aside, listed.count, words)
+}
+
+// Reads the lines behind the head, into cells and marks; what is read to its end and would be listed again is given back.
+fn read_map(
+    b: Head,
+    cache: &[u16],
+    words: &[u32],
+    cells: &mut [u8],
+    marks: &mut [u8],
+    aside: &mut [u32],
+    map: &mut [u8],
+    flags: &mut [u8],
+) -> Palette
+    requires { ⌜ Headed b (now cache) (now words) (length (now map)) (length (now flags)) ⌝ }
+    requires { ⌜ (now cells ≡ replicate (b .width * b .height) 0) × (now marks ≡ replicate (scanOf (b .width) (b .height) (b .transposed) .lines) 0)
+        × (4234 ≤ length (now aside)) ⌝ }
+    ensures { λ r. ⌜ Reads (reading (b .width) (b .height) (b .bd) (now (cache .entry)) (length (now (map .entry))) (length (now (flags .entry))) (now (words .entry)))
+        (now (map .entry)) (now (map .exit)) (now (flags .entry)) (now (flags .exit)) r ⌝ }
+{
+    let s = scan::scan_of(b.width, b.height, b.transposed);
+    let place = read_map::read_lines(words, b.at, cells, marks, s, b.n);
+    if place.fault != 0 {
+        return accept::refuse(place.fault);
+    }
+    if place.at < words.len() {
+        return accept::refuse(22);
+    }
+    if !relists(b, cells, marks, cache, words, aside) {
+        return accept::refuse(23);
+    }
+    lists::copy_bytes(cells, cells.len(), map);
+    lists::copy_bytes(marks, marks.len(), flags);
+    let colors = b.colors;
+    Palette {
+        number: 0,
+        n: b.n,
+        colors,
+        transposed: b.transposed,
+        bits: 0.0,
+    }
+}
+
+// As `read`, behind colours and orientation: with room aside for cells, flags and the list.
+fn read_aside(b: Head, cache: &[u16], words: &[u32], map: &mut [u8], flags: &mut [u8]) -> Palette
+    requires { ⌜ Headed b (now cache) (now words) (length (now map)) (length (now flags)) ⌝ }
+    ensures { λ r. ⌜ Reads (reading (b .width) (b .height) (b .bd) (now (cache .entry)) (length (now (map .entry))) (length (now (flags .entry))) (now (words .entry)))
+        (now (map .entry)) (now (map .exit)) (now (flags .entry)) (now (flags .exit)) r ⌝ }
+{
+    let mut cells = [0u8; 4096];
+    let mut marks = [0u8; 64];
+    let mut aside = [0u32; 4234];
+    let count = context::lines_of(b.transposed, b.width, b.height);
+    read_map(
+        b,
+        cache,
+        words,
+        &mut cells[..b.width * b.height],
+        &mut marks[..count],
+        &mut aside,
+        map,
+        flags,
+    )
+}
+
+// Reads a call list back: colours and orientation are returned, map and flags written from the front; or it is refused and
+// nothing is written.
+pub fn read(
+    width: usize,
+    height: usize,
+    bd: u32,
+    cache: &[u16],
+    words: &[u32],
+    map: &mut [u8],
+    flags: &mut [u8],
+) -> Palette
+    ensures { λ r. ⌜ Reads (reading width height bd (now (cache .entry)) (length (now (map .entry))) (length (now (flags .entry))) (now (words .entry)))
+        (now (map .entry)) (now (map .exit)) (now (flags .entry)) (now (flags .exit)) r ⌝ }
+{
+    let number = limits(width, height, bd, cache.len(), map.len(), flags.len());
+    if number != 0 {
+        return accept::refuse(number);
+    }
+    let held = read_colors::read_colors(words, bd, cache);
+    let place = held.place;
+    if place.fault != 0 {
+        return accept::refuse(place.fault);
+    }
+    let turned = read_orient(words, place.at, width, height);
+    let next = turned.place;
+    if next.fault != 0 {
+        return accept::refuse(next.fault);
+    }
+    let colors = held.colors;
+    let b = Head {
+        width,
+        height,
+        bd,
+        n: held.count,
+        colors,
+        transposed: turned.second == 1,
+        at: next.at,
+    };
+    read_aside(b, cache, words, map, flags)
+}
