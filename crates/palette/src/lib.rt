@@ -1,12 +1,14 @@
 // The front door: everything that is open to callers, each function for all arguments.
+use accept::Palette;
 use context::Context;
 use listing::Listed;
-use search::Palette;
 ghost use mathlib.Core.Path.{_≡_};
+ghost use lib.ListN.{length};
 ghost use Rattle.counts.specs.Counts.{blockAllowed};
 ghost use Rattle.context.specs.Context.{contextOf};
 ghost use Rattle.accept.specs.Palette.{paletteOf};
 ghost use Rattle.listing.specs.Listing.{Lists, Predicts};
+ghost use Rattle.reading.specs.Reading.{reading, Reads};
 ghost use Rattle.search.specs.Search.{Searches};
 
 // Whether a block of these sides, in units of 4, may have a palette.
@@ -88,4 +90,21 @@ pub fn pred(
         (now (values .entry)) (now (values .exit)) r ⌝ }
 {
     listing::pred(width, height, bd, colors, n, transposed, map, flags, values)
+}
+
+// Reads a call list back: colours and orientation are returned, map and flags written from the front of `map` and `flags`; or
+// refuses it and writes nothing.
+pub fn read(
+    width: usize,
+    height: usize,
+    bd: u32,
+    cache: &[u16],
+    words: &[u32],
+    map: &mut [u8],
+    flags: &mut [u8],
+) -> Palette
+    ensures { λ r. ⌜ Reads (reading width height bd (now (cache .entry)) (length (now (map .entry))) (length (now (flags .entry))) (now (words .entry)))
+        (now (map .entry)) (now (map .exit)) (now (flags .entry)) (now (flags .exit)) r ⌝ }
+{
+    reading::read(width, height, bd, cache, words, map, flags)
 }

@@ -7,7 +7,10 @@ ghost use Rattle.context.specs.Context.{contextOf};
 ghost use Rattle.accept.specs.Palette.{paletteOf};
 ghost use Rattle.listing.specs.Listing.{Predicts};
 ghost use Rattle.station.specs.Listed.{ListsTo};
+ghost use Rattle.reading.specs.Reading.{reading};
 ghost use Rattle.station.specs.Searched.{fieldsOf, SearchesTo};
+ghost use Rattle.station.specs.Read.{ReadsTo};
+ghost use lib.ListN.{length};
 ghost use Prim.Native.Nat.{_≤_};
 
 #[no_mangle]
@@ -152,4 +155,24 @@ pub extern "C" fn palette_pred(
 {
     let eight = *colors;
     palette::pred(width, height, bd, eight, n, transposed, map, flags, values)
+}
+
+#[no_mangle]
+pub extern "C" fn palette_read(
+    width: usize,
+    height: usize,
+    bd: u32,
+    cache: &[u16],
+    words: &[u32],
+    map: &mut [u8],
+    flags: &mut [u8],
+    read: &mut [u32; 10],
+) -> u32
+    ensures { λ r. ⌜ ReadsTo (reading width height bd (now (cache .entry)) (length (now (map .entry))) (length (now (flags .entry))) (now (words .entry)))
+        (now (map .entry)) (now (map .exit)) (now (flags .entry)) (now (flags .exit)) (now (read .exit)) r ⌝ }
+{
+    let answer = palette::read(width, height, bd, cache, words, map, flags);
+    let colors = answer.colors;
+    *read = in_fields(answer.n, colors, answer.transposed);
+    answer.number
 }
