@@ -31,6 +31,16 @@ pub(crate) struct Asked<'a> {
     pub(crate) costs: &'a [f32],
 }
 
+/// A list, and what it was listed with, as the archive takes them.
+#[derive(Clone, Copy)]
+pub(crate) struct Kept<'a> {
+    pub(crate) width: usize,
+    pub(crate) height: usize,
+    pub(crate) bd: u32,
+    pub(crate) cache: &'a [u16],
+    pub(crate) words: &'a [u32],
+}
+
 // As in include/palette.h, which a test holds to the archive's symbols.
 extern "C" {
     fn palette_block_allowed(bw4: usize, bh4: usize) -> bool;
@@ -78,6 +88,21 @@ extern "C" {
         words: *mut u32,
         room: usize,
         listed: *mut [u32; 2],
+    ) -> u32;
+
+    fn palette_read(
+        width: usize,
+        height: usize,
+        bd: u32,
+        cache: *const u16,
+        cached: usize,
+        words: *const u32,
+        count: usize,
+        map: *mut u8,
+        map_room: usize,
+        flags: *mut u8,
+        flag_room: usize,
+        read: *mut [u32; 10],
     ) -> u32;
 
     fn palette_pred(
@@ -182,6 +207,28 @@ pub(crate) fn list(
             words.as_mut_ptr(),
             words.len(),
             listed
+        )
+    })
+}
+
+/// The number; `read` becomes n, eight colours and orientation.
+pub(crate) fn read(kept: Kept<'_>, map: &mut [u8], flags: &mut [u8], read: &mut [u32; 10]) -> u32 {
+    // SAFETY: each pointer and length is of one slice; the three mutable borrows do not overlap,
+    // and the function writes within their lengths only.
+    in_default(|| unsafe {
+        palette_read(
+            kept.width,
+            kept.height,
+            kept.bd,
+            kept.cache.as_ptr(),
+            kept.cache.len(),
+            kept.words.as_ptr(),
+            kept.words.len(),
+            map.as_mut_ptr(),
+            map.len(),
+            flags.as_mut_ptr(),
+            flags.len(),
+            read,
         )
     })
 }

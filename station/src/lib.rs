@@ -1,11 +1,13 @@
-//! Palette blocks for stations: the proved search, listing and prediction as safe functions.
+//! Palette blocks for stations: the proved search, listing, reading and prediction as safe
+//! functions.
 //!
 //! A block of a scanned sheet becomes 2 to 8 colours and an index map ([`search`]), and these
-//! become a list of calls ([`list`]) for a byte coder ([`replay`]). Document 01 is the
-//! specification; its numbers come back as a [`Refusal`].
+//! become a list of calls ([`list`]) for a byte coder ([`replay`]). A list that was kept is read
+//! back ([`read`]) and shown ([`pred`]). Documents 01 and 02 are the specification; their numbers
+//! come back as a [`Refusal`].
 //!
 //! ```
-//! use palette_station::{list, search, Block, Costs};
+//! use palette_station::{list, pred, read, search, Block, Costs};
 //!
 //! // 16 by 1: eight samples of 10, then eight of 20.
 //! let samples = [[10.0; 8], [20.0; 8]].concat();
@@ -17,22 +19,26 @@
 //! for call in listing.calls() {
 //!     println!("{:?}", call.expect("a listing holds known words only"));
 //! }
+//!
+//! let back = read(16, 1, 8, &listing.words, &[])?;
+//! assert_eq!(pred(&back)?, samples);
 //! # Ok::<(), palette_station::Refusal>(())
 //! ```
 //!
 //! Equal input gives equal lists on every station; different palettes of one width, height, depth
-//! and cache never share a list. No input makes these functions fail other than by a refusal, and
-//! a refusal leaves every lent buffer as it was. A whole [`sheet`] is known by more than its lists;
-//! a [`report`] tells what the lists of many blocks come to.
+//! and cache never share a list, and only what a listing would write is read. No input makes these
+//! functions fail other than by a refusal, and a refusal leaves every lent buffer as it was. A
+//! whole [`sheet`] is known by more than its lists; a [`report`] tells what the lists of many
+//! blocks come to.
 //!
 //! The answers do not depend on the caller's floating environment: each call runs in the default
 //! one and puts the caller's back. So a program that flushes subnormal numbers to 0 (C's
 //! `-ffast-math`) or rounds upward finds the same palettes, and one that has unmasked float
 //! exceptions gets none out of a search.
 //!
-//! [`search`], [`list`] and [`pred`] allocate what they hand back. A station that goes through
-//! many blocks lends its own buffers to [`search_into`], [`list_into`] and [`pred_into`]; then
-//! nothing is allocated.
+//! [`search`], [`list`], [`read`] and [`pred`] allocate what they hand back. A station that goes
+//! through many blocks lends its own buffers to [`search_into`], [`list_into`], [`read_into`] and
+//! [`pred_into`]; then nothing is allocated.
 
 #![deny(missing_docs)]
 #![deny(unsafe_code)]
@@ -48,6 +54,7 @@ mod limits;
 mod listing;
 mod palette;
 mod pred;
+mod read;
 mod refusal;
 pub mod report;
 mod search;
@@ -63,6 +70,7 @@ pub use limits::{
 pub use listing::{list, list_into, Listing, ListingView};
 pub use palette::{Colors, Palette, PaletteView};
 pub use pred::{pred, pred_into};
+pub use read::{read, read_into};
 pub use refusal::Refusal;
 pub use search::{block_allowed, search, search_into, Block};
 

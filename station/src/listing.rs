@@ -90,7 +90,7 @@ impl<'w> ListingView<'w> {
 /// the order in which the decoder has them; building it is the coder's part.
 ///
 /// Refused by 1, 2 and 11 to 15, tested in this order. A palette that the search found, with a
-/// cache of at most 64 entries, is never refused.
+/// cache of at most 64 entries, is never refused; [`read`](crate::read) gives it back.
 ///
 /// ```
 /// let palette = palette_station::Palette::example();

@@ -109,7 +109,8 @@ pub struct Palette {
     /// before.
     pub flags: Vec<u8>,
     /// The search's estimate for weighing this block against other ways to code it. It is not
-    /// the length of the list; listing and prediction do not look at it.
+    /// the length of the list; listing and prediction do not look at it. A list does not hold it:
+    /// it is 0 in a palette that was read back.
     pub bits: f32,
 }
 
@@ -148,7 +149,7 @@ pub struct PaletteView<'a> {
     pub map: &'a [u8],
     /// A flag for each line.
     pub flags: &'a [u8],
-    /// The search's estimate.
+    /// The search's estimate; 0 if read back.
     pub bits: f32,
 }
 
@@ -225,6 +226,32 @@ impl Palette {
     /// ```
     pub fn color_at(&self, y: usize, x: usize) -> Option<u16> {
         self.view().color_at(y, x)
+    }
+}
+
+impl<'a> PaletteView<'a> {
+    /// From the archive's answer: n, eight colours and orientation, and the buffers whose fronts
+    /// it wrote. Without an estimate.
+    pub(crate) fn from_fields(
+        (width, height): (usize, usize),
+        bd: u32,
+        fields: [u32; 10],
+        map: &'a [u8],
+        flags: &'a [u8],
+    ) -> PaletteView<'a> {
+        let [n, colors @ .., transposed] = fields;
+        let transposed = transposed != 0;
+        let lines = if transposed { width } else { height };
+        PaletteView {
+            width,
+            height,
+            bd,
+            colors: Colors::from_fields(n, &colors),
+            transposed,
+            map: &map[..width * height],
+            flags: &flags[..lines],
+            bits: 0.0,
+        }
     }
 }
 

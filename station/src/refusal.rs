@@ -3,8 +3,8 @@
 use std::error::Error;
 use std::fmt::{self, Display, Formatter};
 
-/// Document 01's number for what was asked, with its meaning; 19 is document 02's. A refused call
-/// has written nothing.
+/// The documents' number for what was asked, with its meaning: document 01's to 18, document 02's
+/// from 19. A refused call has written nothing.
 ///
 /// The constants can stand in patterns:
 ///
@@ -72,10 +72,14 @@ refusals! {
     TEXT = 17: "listing program: text not in its form"
     CONTEXT = 18: "no context there: cell (0,0), x not below the stride, n not 2..8, or a used neighbour past the map's end or not below n"
     BLOCK_COUNT = 19: "more than 9,999 palettes in a block report"
+    LIST_END = 20: "the list ends where a word is due"
+    WORD = 21: "a word whose kind or first field is not the one due, or whose second is beyond its range"
+    WORDS_LEFT = 22: "words left over behind the list"
+    NOT_LISTED = 23: "a list that reads to its end but that the listing would not write"
 }
 
 impl Refusal {
-    /// The number, 1 to 19.
+    /// The number, 1 to 23.
     ///
     /// ```
     /// use palette_station::Refusal;
@@ -93,17 +97,17 @@ impl Refusal {
     ///
     /// assert_eq!(Refusal::from_number(9), Some(Refusal::ONE_LEVEL));
     /// assert_eq!(Refusal::from_number(0), None);
-    /// assert_eq!(Refusal::from_number(20), None);
+    /// assert_eq!(Refusal::from_number(24), None);
     /// ```
     pub const fn from_number(number: u32) -> Option<Refusal> {
         match number {
-            1..=19 => Some(Refusal { number }),
+            1..=23 => Some(Refusal { number }),
             _ => None,
         }
     }
 
     /// Whether the block was in order and merely has no palette (8, 9 and 10). It is then coded
-    /// by other means; every other number says that the call was wrong.
+    /// by other means; every other number says that the call was wrong, or the list (20 to 23).
     ///
     /// ```
     /// use palette_station::Refusal;

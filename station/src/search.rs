@@ -2,7 +2,6 @@
 
 use crate::archive::{self, Asked};
 use crate::limits::{MAX_CELLS, MAX_LINES};
-use crate::palette::Colors;
 use crate::{Costs, Palette, PaletteView, Refusal};
 
 /// A block of samples, row by row.
@@ -105,19 +104,7 @@ pub fn search_into<'b>(
     };
     let (mut fields, mut bits) = ([0; 10], 0.0);
     Refusal::check(archive::search(asked, map, flags, &mut fields, &mut bits))?;
-    let [n, colors @ .., transposed] = fields;
-    let found = PaletteView {
-        width: block.width,
-        height: block.height,
-        bd: block.bd,
-        colors: Colors::from_fields(n, &colors),
-        transposed: transposed != 0,
-        map: &map[..block.width * block.height],
-        flags,
-        bits,
-    };
-    Ok(PaletteView {
-        flags: &found.flags[..found.lines()],
-        ..found
-    })
+    let sides = (block.width, block.height);
+    let found = PaletteView::from_fields(sides, block.bd, fields, map, flags);
+    Ok(PaletteView { bits, ..found })
 }
