@@ -19,9 +19,9 @@
  * then find another palette. fesetround and feenableexcept leave it too, and so may a library.
  * Whoever cannot rule that out calls palette_search_default_env.
  *
- * A function that returns uint32_t returns document 01's number: 0 if accepted, else the first
+ * A function that returns uint32_t returns the documents' number: 0 if accepted, else the first
  * of its tests that fails. After a refusal every lent buffer (map, flags, words, values) is as it
- * was, and every other result (context, found, bits, listed) is 0 throughout.
+ * was, and every other result (context, found, bits, listed, read) is 0 throughout.
  *
  * All functions may be called from several threads at once: they share nothing.
  */
@@ -47,8 +47,8 @@ extern "C" {
 #define PALETTE_COSTS 301
 
 /*
- * Document 01's numbers, and document 02's 19. 17 is given only by programs that read a text, 19
- * only by a block report.
+ * Document 01's numbers, and from 19 on document 02's. 17 is given only by programs that read a
+ * text, 19 only by a block report.
  */
 #define PALETTE_ACCEPTED 0
 #define PALETTE_SIDE 1          /* a side outside 1..64 */
@@ -70,6 +70,10 @@ extern "C" {
 #define PALETTE_TEXT 17         /* listing program: text not in its form */
 #define PALETTE_NO_CONTEXT 18   /* no context at that cell */
 #define PALETTE_BLOCK_COUNT 19  /* more than 9,999 palettes in a block report */
+#define PALETTE_LIST_END 20     /* the list ends where a word is due */
+#define PALETTE_WORD 21         /* kind or first field not the one due, or second beyond range */
+#define PALETTE_WORDS_LEFT 22   /* words left over behind the list */
+#define PALETTE_NOT_LISTED 23   /* reads to its end, but the listing would not write it */
 
 /*
  * Whether a block of these sides, in units of four samples, may have a palette: each at most 16,
@@ -140,6 +144,20 @@ uint32_t palette_list(size_t width, size_t height, uint32_t bd, const uint16_t c
                       bool transposed, const uint8_t *map, size_t cells, const uint8_t *flags,
                       size_t lines, const uint16_t *cache, size_t cached, uint32_t *words,
                       size_t room, uint32_t listed[2]);
+
+/*
+ * Reads a palette back from its list: `count` words that palette_list wrote with the same sides,
+ * depth and cache. The map needs room for width x height indices, the flags for the longer side.
+ *
+ * Returns 0, or 1, 2, 13, 7, tested in this order; then the number of the earliest faulty word, 20
+ * or 21; then 22, then 23. It returns 0 exactly on lists that palette_list writes. Writes from the
+ * front, and nothing behind: `map`, an index for each cell, row by row; `flags`, one for each line,
+ * that is height of them, or width if transposed. Writes `read`: n, eight colours with zeros past
+ * n, and 1 if transposed, else 0. palette_pred takes map and flags as they are.
+ */
+uint32_t palette_read(size_t width, size_t height, uint32_t bd, const uint16_t *cache,
+                      size_t cached, const uint32_t *words, size_t count, uint8_t *map,
+                      size_t map_room, uint8_t *flags, size_t flag_room, uint32_t read[10]);
 
 /*
  * The prediction of a palette, which is given as to palette_list.
