@@ -1,7 +1,7 @@
 //! What the safe functions cannot ask: lengths that their types rule out, and the returned
 //! fields after a refusal.
 
-use super::{Asked, Lent};
+use super::{Asked, Kept, Lent};
 
 const SAMPLES: [f32; 16] = [
     10.0, 10.0, 10.0, 10.0, 10.0, 10.0, 10.0, 10.0, 20.0, 20.0, 20.0, 20.0, 20.0, 20.0, 20.0, 20.0,
@@ -72,6 +72,67 @@ fn more_than_eight_colors_are_11() {
     }
     let (mut words, mut listed) = ([0xdead; 40], [9; 2]);
     assert_eq!(super::list(lent(8), &[], &mut words, &mut listed), 0);
+}
+
+/// The list of the worked block on its side: one column of 16, transposed.
+fn turned() -> [u32; 22] {
+    let mut words = [0x0500_0000; 22];
+    words[..4].copy_from_slice(&[0x0300_0000, 0x0108_000a, 0x0102_0000, 0x0105_0009]);
+    words[4..7].copy_from_slice(&[0x0101_0001, 0x0403_0000, 0x0202_0000]);
+    words[14] = 0x0500_0001;
+    words
+}
+
+fn kept<'a>(words: &'a [u32], cache: &'a [u16]) -> Kept<'a> {
+    Kept {
+        width: 1,
+        height: 16,
+        bd: 8,
+        cache,
+        words,
+    }
+}
+
+/// The number, with all that is returned, from buffers and fields filled beforehand.
+fn read(kept: Kept<'_>, cells: usize) -> (u32, [u8; 17], [u8; 17], [u32; 10]) {
+    let (mut map, mut flags, mut read) = ([0xee; 17], [0xee; 17], [77; 10]);
+    let number = super::read(kept, &mut map[..cells], &mut flags, &mut read);
+    (number, map, flags, read)
+}
+
+#[test]
+fn a_list_read_back() {
+    let (number, map, flags, read) = read(kept(&turned(), &[]), 17);
+    assert_eq!(number, 0);
+    assert_eq!(map[..16], [0, 0, 0, 0, 0, 0, 0, 0, 1, 1, 1, 1, 1, 1, 1, 1]);
+    assert_eq!((flags[0], &flags[1..], map[16]), (0, &[0xee; 16][..], 0xee));
+    assert_eq!(read, [2, 10, 20, 0, 0, 0, 0, 0, 0, 1]);
+}
+
+#[test]
+fn a_refused_list_is_all_zero() {
+    let words = turned();
+    let whole = kept(&words, &[]);
+    let longer = [&words[..], &[0]].concat();
+    // More bits for the step than it takes.
+    let mut wider = words;
+    (wider[2], wider[3]) = (0x0102_0001, 0x0106_0009);
+    let refused = [
+        (1, 17, Kept { width: 65, ..whole }),
+        (2, 17, Kept { bd: 7, ..whole }),
+        (13, 17, kept(&words, &[0; 65])),
+        (7, 15, whole),
+        (20, 17, kept(&words[..21], &[])),
+        (21, 17, kept(&words[1..], &[])),
+        (22, 17, kept(&longer, &[])),
+        (23, 17, kept(&wider, &[])),
+    ];
+    for (due, cells, kept) in refused {
+        let (number, map, flags, read) = read(kept, cells);
+        assert_eq!(number, due);
+        assert_eq!((map, flags), ([0xee; 17], [0xee; 17]), "number {due}");
+        assert_eq!(read, [0; 10], "number {due}");
+    }
 }
 
 #[test]
