@@ -2,9 +2,9 @@
 
 mod common;
 
-use common::decode::{decode, Decoded};
-use common::Random;
-use palette_station::{list, replay, search, Coder, Costs, Palette, Refusal};
+use common::decode::decode;
+use common::{without_estimate, Random};
+use palette_station::{list, pred, read, replay, search, Coder, Costs, Palette, Refusal};
 use std::thread;
 
 /// Palettes of random blocks, with either orientation among them.
@@ -17,7 +17,8 @@ fn found(random: &mut Random, blocks: usize) -> Vec<Palette> {
     (0..blocks).filter_map(|_| one(random)).collect()
 }
 
-/// Caches of 0, 1 and 64 entries: none, a colour, and colours between other values.
+/// Caches of 0, 1 and 64 entries: none, a colour, and colours, some twice, between other values,
+/// most of them above the top level.
 fn caches(random: &mut Random, palette: &Palette) -> [Vec<u16>; 3] {
     let any = |random: &mut Random| match random.below(3) {
         0 => palette.colors[random.between(0, palette.colors.len() - 1)],
@@ -34,18 +35,18 @@ fn found_palettes_come_back_from_their_lists() {
     assert!(palettes.iter().any(|palette| palette.transposed));
     assert!(palettes.iter().any(|palette| palette.flags.contains(&2)));
     for palette in &palettes {
-        let due = Decoded {
-            colors: palette.colors.to_vec(),
-            transposed: palette.transposed,
-            map: palette.map.clone(),
-            flags: palette.flags.clone(),
-        };
-        let sides = (palette.width, palette.height);
+        let due = without_estimate(palette);
+        let (width, height, bd) = (palette.width, palette.height, palette.bd);
         for cache in caches(&mut random, palette) {
-            let listing = list(palette, &cache).expect("found, so listed");
-            assert_eq!(decode(&listing.words, sides, palette.bd, &cache), due);
+            let words = list(palette, &cache).expect("found, so listed").words;
+            let decoded = decode(&words, (width, height), bd, &cache);
+            assert_eq!(decoded.as_ref(), Ok(&due));
+            let back = read(width, height, bd, &words, &cache).expect("listed, so read");
+            assert_eq!(back, due);
+            assert_eq!(pred(&back), pred(palette));
         }
         assert_eq!(list(palette, &[0; 65]), Err(Refusal::CACHE));
+        assert_eq!(read(width, height, bd, &[], &[0; 65]), Err(Refusal::CACHE));
     }
 }
 

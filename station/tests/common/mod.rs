@@ -49,6 +49,19 @@ pub fn counting(width: usize, height: usize, n: usize) -> Palette {
     }
 }
 
+/// All of a palette but the estimate, of which its list holds nothing.
+pub fn without_estimate(palette: &Palette) -> Palette {
+    Palette {
+        bits: 0.0,
+        ..palette.clone()
+    }
+}
+
+/// A call word by its fields.
+pub const fn word(kind: u32, first: u32, second: u32) -> u32 {
+    kind << 24 | first << 16 | second
+}
+
 /// So many cases, or so many times the variable STATION_TIMES for a longer run.
 pub fn cases(count: usize) -> usize {
     let times = env::var("STATION_TIMES").ok();

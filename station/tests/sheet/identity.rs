@@ -1,7 +1,7 @@
 //! Two different sheets never have one form.
 
 use crate::command::{bars, folder, form, pgm};
-use crate::common::{cases, Random};
+use crate::common::{cases, without_estimate, Random};
 use crate::form::{block, cut, text};
 use palette_station::sheet::{Settings, Sheet};
 use palette_station::{search, Palette, Refusal};
@@ -81,16 +81,9 @@ fn palettes(sheet: &Sheet, settings: &Settings) -> Vec<Result<Palette, Refusal>>
     blocks.iter().map(search).collect()
 }
 
-/// All but the estimate, of which the lists hold nothing.
 fn same(a: &Result<Palette, Refusal>, b: &Result<Palette, Refusal>) -> bool {
     match (a, b) {
-        (Ok(a), Ok(b)) => {
-            let kept = |p: &Palette| Palette {
-                bits: 0.0,
-                ..p.clone()
-            };
-            kept(a) == kept(b)
-        }
+        (Ok(a), Ok(b)) => without_estimate(a) == without_estimate(b),
         _ => a == b,
     }
 }
