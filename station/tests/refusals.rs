@@ -5,8 +5,8 @@ mod common;
 use common::{block, counting, halves};
 use palette_station::report::Report;
 use palette_station::{
-    context, list, list_into, pred_into, search, search_into, Block, Colors, Costs, Palette,
-    Refusal,
+    context, list, list_into, pred_into, read, read_into, search, search_into, Block, Colors,
+    Costs, Palette, Refusal,
 };
 
 fn search_number(change: impl FnOnce(&mut Block, &mut f32, &mut [f32; 301])) -> u32 {
@@ -75,6 +75,29 @@ fn prediction_7_and_context_18() {
     assert_eq!(context(&[0; 4], 2, 0, 0, 2), Err(Refusal::CONTEXT));
 }
 
+/// The number of the example's list, changed.
+fn read_number(cache: &[u16], change: impl FnOnce(&mut Vec<u32>)) -> u32 {
+    let mut words = list(&Palette::example(), &[]).unwrap().words;
+    change(&mut words);
+    read(4, 2, 8, &words, cache).map_or_else(Refusal::number, |_| 0)
+}
+
+#[test]
+fn reading_1_2_7_13_and_20_to_23() {
+    assert_eq!(read_number(&[], |_| {}), 0);
+    assert_eq!(read(4, 65, 8, &[], &[]), Err(Refusal::SIDE));
+    assert_eq!(read(4, 2, 13, &[], &[]), Err(Refusal::DEPTH));
+    assert_eq!(read_number(&[0; 65], |_| {}), 13);
+    let (mut map, mut flags) = ([0; 8], [0; 3]);
+    let refused = read_into(4, 2, 8, &[], &[], &mut map, &mut flags);
+    assert_eq!(refused, Err(Refusal::ROOM));
+    assert_eq!(read_number(&[], |words| words.truncate(11)), 20);
+    assert_eq!(read_number(&[], |words| words[0] = 7), 21);
+    assert_eq!(read_number(&[], |words| words.push(0)), 22);
+    // The cache has the first colour, but its bit says that it is not taken.
+    assert_eq!(read_number(&[16], |words| words.insert(1, 0x0101_0000)), 23);
+}
+
 /// Only the listing program gives 17.
 #[test]
 fn text_17() {
@@ -102,8 +125,8 @@ fn block_count_19() {
 
 #[test]
 fn every_number_has_a_meaning_of_its_own() {
-    let refusals: Vec<Refusal> = (1..=19).filter_map(Refusal::from_number).collect();
-    assert_eq!(refusals.len(), 19);
+    let refusals: Vec<Refusal> = (1..=23).filter_map(Refusal::from_number).collect();
+    assert_eq!(refusals.len(), 23);
     for (place, refusal) in refusals.iter().enumerate() {
         assert_eq!(refusal.number() as usize, place + 1);
         let shown = format!("refused by {}: {}", place + 1, refusal.meaning());
@@ -118,5 +141,5 @@ fn every_number_has_a_meaning_of_its_own() {
         );
     }
     assert_eq!(Refusal::from_number(0), None);
-    assert_eq!(Refusal::from_number(20), None);
+    assert_eq!(Refusal::from_number(24), None);
 }
