@@ -237,6 +237,10 @@ fn numbers_are_those_of_the_package() {
         ("PALETTE_TEXT", station::Refusal::TEXT),
         ("PALETTE_NO_CONTEXT", station::Refusal::CONTEXT),
         ("PALETTE_BLOCK_COUNT", station::Refusal::BLOCK_COUNT),
+        ("PALETTE_LIST_END", station::Refusal::LIST_END),
+        ("PALETTE_WORD", station::Refusal::WORD),
+        ("PALETTE_WORDS_LEFT", station::Refusal::WORDS_LEFT),
+        ("PALETTE_NOT_LISTED", station::Refusal::NOT_LISTED),
     ];
     for (name, refusal) in numbers {
         assert_eq!(defined(name), Some(refusal.number() as usize), "{name}");

@@ -110,11 +110,51 @@ static void pred(void) {
     CHECK(memcmp(values, due, sizeof due) == 0 && filled(values + 8, sizeof(float)));
 }
 
+/* The same palette, read back from its list. */
+static void read_back(void) {
+    uint32_t words[13], listed[2], read[10];
+    uint8_t map[9], flags[5];
+    const uint16_t cache[65] = {16, 16};
+    const uint32_t due[10] = {2, 16, 235, 0, 0, 0, 0, 0, 0, 0};
+    CHECK(palette_list(4, 2, 8, colors, 2, false, cells, 8, lines, 2, cache, 0, words, 12,
+                       listed) == PALETTE_ACCEPTED);
+    words[12] = 0;
+    fill(map, 9), fill(flags, 5), fill(read, sizeof read);
+    CHECK(palette_read(4, 2, 8, cache, 65, words, 12, map, 8, flags, 4, read) ==
+          PALETTE_LONG_CACHE);
+    CHECK(palette_read(4, 2, 8, cache, 0, words, 12, map, 8, flags, 3, read) == PALETTE_ROOM);
+    CHECK(palette_read(4, 2, 8, cache, 0, words, 11, map, 8, flags, 4, read) == PALETTE_LIST_END);
+    CHECK(palette_read(4, 2, 8, cache, 1, words, 12, map, 8, flags, 4, read) == PALETTE_WORD);
+    CHECK(palette_read(4, 2, 8, cache, 0, words, 13, map, 8, flags, 4, read) ==
+          PALETTE_WORDS_LEFT);
+    CHECK(filled(map, 9) && filled(flags, 5) && zeros(read, 10));
+    CHECK(palette_read(4, 2, 8, cache, 0, words, 12, map, 8, flags, 4, read) == PALETTE_ACCEPTED);
+    CHECK(memcmp(read, due, sizeof due) == 0);
+    CHECK(memcmp(map, cells, 8) == 0 && map[8] == 0xee);
+    CHECK(memcmp(flags, lines, 2) == 0 && filled(flags + 2, 3));
+}
+
+/* One line of 64 and one index; both colours from the cache, which has one twice. */
+static void not_listed(void) {
+    const uint32_t words[5] = {0x03000000, 0x01010001, 0x01010001, 0x04030001, 0x02020000};
+    const uint16_t cache[2] = {16, 16};
+    uint32_t read[10];
+    uint8_t map[64], flags[64];
+    fill(map, 64), fill(flags, 64), fill(read, sizeof read);
+    CHECK(palette_read(64, 1, 8, cache, 2, words, 5, map, 64, flags, 64, read) ==
+          PALETTE_NOT_LISTED);
+    CHECK(filled(map, 64) && filled(flags, 64) && zeros(read, 10));
+    CHECK(palette_read(64, 1, 8, colors, 2, words, 5, map, 64, flags, 64, read) ==
+          PALETTE_ACCEPTED);
+}
+
 int main(void) {
     block_allowed();
     context();
     search();
     list();
+    read_back();
+    not_listed();
     pred();
     printf("%d wrong\n", wrong);
     return wrong != 0;
