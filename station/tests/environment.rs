@@ -5,9 +5,9 @@
 
 mod common;
 
-use common::{block, halves, Drawn, Random};
+use common::{block, halves, without_estimate, Drawn, Random};
 use palette_station::{
-    block_allowed, context, list, pred, search, Block, Costs, Listing, Palette, Refusal,
+    block_allowed, context, list, pred, read, search, Block, Costs, Listing, Palette, Refusal,
 };
 use std::arch::asm;
 
@@ -248,6 +248,21 @@ fn lists_and_predictions() {
             for (name, mode) in MODES {
                 assert_eq!(listed(&palette, &cache[..cached], mode), due, "{name}");
             }
+        }
+    }
+}
+
+#[test]
+fn lists_read_back() {
+    let cache: Vec<u16> = (0..64).collect();
+    let palettes = cases(9).into_iter().filter_map(|case| case.search().ok());
+    for palette in palettes.take(100) {
+        let words = list(&palette, &cache).expect("the search found it").words;
+        let (width, height, bd) = (palette.width, palette.height, palette.bd);
+        let due = bitwise(Ok(without_estimate(&palette)));
+        for (name, mode) in MODES {
+            let back = under(mode, || read(width, height, bd, &words, &cache));
+            assert_eq!(bitwise(back), due, "{name}");
         }
     }
 }
