@@ -14,4 +14,5 @@ mod pictures;
 mod report;
 mod scans;
 mod script;
+mod shown;
 mod summary;
