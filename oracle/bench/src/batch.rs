@@ -4,7 +4,7 @@ use crate::sheets::{HEIGHT, WIDTH};
 use palette_compare::due::Due;
 use palette_oracle::check::none_number;
 use palette_oracle::Found;
-use palette_station::{search_into, Costs, PaletteView, Refusal};
+use palette_station::{read_into, search_into, Costs, PaletteView, Refusal};
 
 /// The depth of all sheets.
 pub const DEPTH: u32 = 8;
@@ -66,6 +66,16 @@ pub fn search_ours<'r>(
     };
     let (map, flags) = (&mut room.map, &mut room.flags);
     search_into(&block, prices.lambda, prices.costs, map, flags)
+}
+
+/// Reads a block's list back, to where its search writes.
+pub fn read_ours<'r>(
+    block: &Block,
+    words: &[u32],
+    room: &'r mut Room,
+) -> Result<PaletteView<'r>, Refusal> {
+    let (map, flags) = (&mut room.map, &mut room.flags);
+    read_into(block.w, block.h, DEPTH, words, &[], map, flags)
 }
 
 /// The original's answer with the number that document 01 gives the block.

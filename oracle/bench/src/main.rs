@@ -1,4 +1,4 @@
-//! Times our search and listing beside the original's search on three drawn sheets.
+//! Times our search, listing and reading beside the original's search on three drawn sheets.
 
 mod batch;
 mod plot;
@@ -6,11 +6,11 @@ mod rounds;
 mod sheets;
 mod table;
 
-use batch::{corners, cut, due, search_ours, Block, Prices, Room};
+use batch::{corners, cut, due, read_ours, search_ours, Block, Prices, Room};
 use palette_oracle::generate::costs::logarithms;
-use palette_station::Costs;
+use palette_station::{list, Costs, Palette};
 use plot::{chart, Bar};
-use rounds::{same_list, time, Timed};
+use rounds::{time, Timed};
 use sheets::{sheets, Sheet};
 use std::process::ExitCode;
 use table::{print_head, print_line, Outcome};
@@ -113,7 +113,8 @@ fn measure(sheet: &Sheet, side: usize, lambda: f32, costs: &Costs, options: &Opt
     outcome
 }
 
-/// Searches and lists a block by both, untimed. A block on which they differ is not timed.
+/// Searches and lists a block by both and reads our list back, untimed. A block on which they
+/// differ, or whose list gives another palette back, is not timed.
 fn looked_at(block: Block, prices: &Prices, outcome: &mut Outcome) -> Option<Timed> {
     let due = due(&block, prices);
     *outcome.numbers.entry(due.number).or_default() += 1;
@@ -121,9 +122,15 @@ fn looked_at(block: Block, prices: &Prices, outcome: &mut Outcome) -> Option<Tim
     let answer = search_ours(&block, prices, &mut room);
     let same_search = due.same(&answer).iter().all(|(_, same)| *same);
     let palette = answer.ok().map(|found| found.to_palette());
-    let both = palette.as_ref().zip(due.found.as_ref());
-    let same_lists = both.is_none_or(|(ours, found)| same_list(ours, &found.palette));
-    if !same_search || !same_lists {
+    let listed = palette.as_ref().and_then(|ours| list(ours, &[]).ok());
+    let words = listed.map_or_else(Vec::new, |listing| listing.words);
+    let original = due
+        .found
+        .map(|found| palette_oracle::list(&found.palette, &[]));
+    let same_list = words == original.unwrap_or_default();
+    let ours = palette.as_ref();
+    let is_read = ours.is_none_or(|ours| reads_as(ours, &block, &words, &mut room));
+    if !(same_search && same_list && is_read) {
         outcome.differences += 1;
         return None;
     }
@@ -131,5 +138,13 @@ fn looked_at(block: Block, prices: &Prices, outcome: &mut Outcome) -> Option<Tim
         block,
         room,
         palette,
+        words,
     })
+}
+
+/// Whether the palette's list is read as that palette; its estimate is in no list.
+fn reads_as(palette: &Palette, block: &Block, words: &[u32], room: &mut Room) -> bool {
+    let mut due = palette.view();
+    due.bits = 0.0;
+    read_ours(block, words, room) == Ok(due)
 }

@@ -1,17 +1,18 @@
 //! Times a batch: rounds of ours and of the original in turn.
 
-use crate::batch::{search_original, search_ours, Block, Prices, Room};
+use crate::batch::{read_ours, search_original, search_ours, Block, Prices, Room};
 use palette_compare::clock::Clock;
 use palette_station::{list_into, Palette, MAX_WORDS};
 use std::time::Duration;
 
 /// Times of one or more batches. Blocks with a palette and refused ones are timed apart, since
-/// only the former can be listed.
+/// only the former can be listed and read back.
 #[derive(Clone, Copy, Default)]
 pub struct Times {
     pub ours: Duration,
     pub original: Duration,
     pub listing: Duration,
+    pub reading: Duration,
     pub ours_refused: Duration,
     pub original_refused: Duration,
 }
@@ -35,6 +36,7 @@ impl Times {
         self.ours = join(self.ours, other.ours);
         self.original = join(self.original, other.original);
         self.listing = join(self.listing, other.listing);
+        self.reading = join(self.reading, other.reading);
         self.ours_refused = join(self.ours_refused, other.ours_refused);
         self.original_refused = join(self.original_refused, other.original_refused);
     }
@@ -45,11 +47,13 @@ pub struct Timed {
     pub block: Block,
     pub room: Room,
     pub palette: Option<Palette>,
+    /// The palette's list; empty without one.
+    pub words: Vec<u32>,
 }
 
 /// The least time of each round over the passes. A round goes once through the blocks of the
-/// batch, so that no call, search or listing, is repeated on a block that is still warm from it.
-/// Ours and the original take turns in going first.
+/// batch, so that no call, search, listing or reading, is repeated on a block that is still warm
+/// from it. Ours and the original take turns in going first.
 pub fn time(batch: &mut [Timed], prices: &Prices, passes: usize) -> Times {
     let mut least: Option<Times> = None;
     for pass in 0..passes {
@@ -73,6 +77,7 @@ fn one_pass(batch: &mut [Timed], prices: &Prices, ours_first: bool) -> Times {
         if found {
             (times.ours, times.original) = (ours, original);
             times.listing = round_of_listing(batch);
+            times.reading = round_of_reading(batch);
         } else {
             (times.ours_refused, times.original_refused) = (ours, original);
         }
@@ -116,9 +121,11 @@ fn round_of_listing(batch: &[Timed]) -> Duration {
     start.elapsed()
 }
 
-/// Whether our list of our palette is the original's list of its own.
-pub fn same_list(ours: &Palette, original: &palette_oracle::Palette) -> bool {
-    let mut words = vec![0; MAX_WORDS];
-    let answer = list_into(&ours.view(), &[], &mut words);
-    answer.is_ok_and(|listing| listing.words == palette_oracle::list(original, &[]))
+fn round_of_reading(batch: &mut [Timed]) -> Duration {
+    let start = Clock::start();
+    for timed in chosen(batch, true) {
+        let answer = read_ours(&timed.block, &timed.words, &mut timed.room);
+        assert!(answer.is_ok(), "a list that was written is read");
+    }
+    start.elapsed()
 }

@@ -13,27 +13,34 @@ pub struct Outcome {
     pub differences: usize,
 }
 
-const HEAD: [&str; 13] = [
-    "sheet",
-    "side",
-    "lambda",
-    "blocks",
-    "found",
-    "8",
-    "9",
-    "10",
-    "search",
-    "s/found",
-    "s/refused",
-    "list/ours",
-    "list/orig",
+/// The columns with their widths.
+const HEAD: [(&str, usize); COLUMNS] = [
+    ("sheet", 8),
+    ("side", 5),
+    ("lambda", 7),
+    ("blocks", 7),
+    ("found", 6),
+    ("8", 5),
+    ("9", 6),
+    ("10", 6),
+    ("search", 8),
+    ("s/found", 8),
+    ("s/refused", 10),
+    ("list/ours", 10),
+    ("list/orig", 10),
+    ("read/list", 10),
+    ("read/ours", 10),
+    ("read/orig", 10),
 ];
+
+const COLUMNS: usize = 16;
 
 pub fn print_head() {
     println!("found, 8, 9, 10: blocks with that answer");
     println!("search: our search / the original's, on the whole sheet, on blocks with a palette and on those without");
     println!("list/ours, list/orig: our listing / our search, / the original's search");
-    print_fields(HEAD.map(str::to_string));
+    println!("read/list, read/ours, read/orig: our reading / our listing, / our search, / the original's search");
+    print_fields(HEAD.map(|(name, _)| name.to_string()));
 }
 
 pub fn print_line(name: &str, side: usize, lambda: f32, outcome: &Outcome) {
@@ -63,10 +70,17 @@ pub fn print_line(name: &str, side: usize, lambda: f32, outcome: &Outcome) {
         ratio(refused, times.ours_refused, times.original_refused),
         ratio(found, times.listing, times.ours),
         ratio(found, times.listing, times.original),
+        ratio(found, times.reading, times.listing),
+        ratio(found, times.reading, times.ours),
+        ratio(found, times.reading, times.original),
     ]);
 }
 
-fn print_fields(fields: [String; 13]) {
-    let line: String = fields.iter().map(|field| format!("{field:>10}")).collect();
+fn print_fields(fields: [String; COLUMNS]) {
+    let widths = HEAD.map(|(_, width)| width);
+    let pairs = fields.iter().zip(widths);
+    let line: String = pairs
+        .map(|(field, width)| format!("{field:>width$}"))
+        .collect();
     println!("{line}");
 }
