@@ -21,7 +21,7 @@
 //! }
 //!
 //! let back = read(16, 1, 8, &listing.words, &[])?;
-//! assert_eq!(pred(&back)?, samples);
+//! assert_eq!(pred(&back)?, pred(&palette)?);
 //! # Ok::<(), palette_station::Refusal>(())
 //! ```
 //!
