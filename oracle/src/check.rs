@@ -89,7 +89,12 @@ pub fn top(bd: u32) -> u32 {
     (1 << bd) - 1
 }
 
-fn sides_fit(w: usize, h: usize) -> bool {
+/// 0 and 1 give 0.
+pub fn ceil_log2(value: u32) -> u32 {
+    value.max(1).next_power_of_two().trailing_zeros()
+}
+
+pub(crate) fn sides_fit(w: usize, h: usize) -> bool {
     (1..=64).contains(&w) && (1..=64).contains(&h)
 }
 

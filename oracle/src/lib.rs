@@ -9,11 +9,13 @@ mod av2 {
 pub mod answers;
 mod c_interface;
 pub mod check;
+#[macro_use]
 pub mod generate;
 mod lent;
 pub mod listing_text;
 mod original;
 mod places;
+pub mod reading;
 pub mod replay;
 pub mod replay_blocks;
 pub mod report_text;
