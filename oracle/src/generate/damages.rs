@@ -1,4 +1,4 @@
-//! What the requests of `list`, `pred` and `search` have in common: spare room and damages.
+//! What the requests of `list`, `pred`, `search` and `read` have in common: spare room and damages.
 
 use super::random::Random;
 
@@ -25,6 +25,19 @@ pub fn damage_side(random: &mut Random, w: &mut usize, h: &mut usize) {
         *w = side;
     } else {
         *h = side;
+    }
+}
+
+/// What a side out of range may ask for at most, of samples and of room.
+pub const MOST: usize = 4240;
+
+/// One place fewer than needed, or any number fewer.
+pub fn lacking(random: &mut Random, needed: usize) -> usize {
+    let needed = needed.clamp(1, MOST);
+    if random.one_in(2) {
+        needed - 1
+    } else {
+        random.below(needed)
     }
 }
 

@@ -20,6 +20,8 @@ pub enum Beside {
     Report = 60,
     /// Pieces that a text is handed over in.
     Pieces = 59,
+    /// Lists to be read back.
+    Read = 58,
 }
 
 impl Random {

@@ -2,7 +2,7 @@
 
 use super::blocks::{block, BlockKinds};
 use super::close::close_block;
-use super::damages::{self, put_anywhere, stretch};
+use super::damages::{self, lacking, put_anywhere, stretch, MOST};
 use super::random::{Beside, Random};
 use crate::check::{top, Asked};
 use crate::original::Block;
@@ -119,9 +119,6 @@ fn damage_count(random: &mut Random, values: &mut Vec<f32>) {
     }
 }
 
-/// What a side out of range may ask for at most, of samples and of room.
-const MOST: usize = 4240;
-
 /// Half of the time the samples follow the side, so that nothing but the side is wrong.
 fn damage_side(random: &mut Random, request: &mut SearchRequest) {
     damages::damage_side(random, &mut request.w, &mut request.h);
@@ -143,15 +140,5 @@ fn outside(random: &mut Random, end: u32) -> f32 {
         1 => random.pick(&[end.next_up(), end + 0.25, 2.0 * end, f32::MAX]),
         2 => random.pick(&[f32::INFINITY, f32::NEG_INFINITY]),
         _ => f32::from_bits(random.pick(&[0x7fc0_0000, 0xffc0_0000, 0x7fff_ffff, 0x7fc0_1234])),
-    }
-}
-
-/// One place fewer than needed, or any number fewer.
-fn lacking(random: &mut Random, needed: usize) -> usize {
-    let needed = needed.clamp(1, MOST);
-    if random.one_in(2) {
-        needed - 1
-    } else {
-        random.below(needed)
     }
 }

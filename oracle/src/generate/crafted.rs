@@ -1,0 +1,181 @@
+//! Lists in good form whose colours the listing would send otherwise: aimed at 23.
+
+use super::caches::{cache_of, CacheKind, LONGEST};
+use super::random::Random;
+use crate::check::{ceil_log2, top};
+use crate::original::{list, Palette};
+
+kinds! {
+    /// What is sent otherwise. Now and then a crafted list is sound all the same.
+    Craft {
+        /// A 1 for a repeated entry too.
+        TakenTwice = "taken-twice",
+        /// A 0 for an entry whose colour follows as a literal.
+        ZeroThenSent = "zero-then-sent",
+        /// A 0 for an entry, and a 1 at its repeat.
+        ZeroThenTaken = "zero-then-taken",
+        /// A 1 for an entry above the top level.
+        AboveTop = "above-top",
+        /// A literal that the cache took before.
+        LiteralTaken = "literal-taken",
+        /// Any start for the width of the steps; too small a one gives 21.
+        StepWidth = "step-width",
+        /// Any bits for the cache.
+        AnyBits = "any-bits",
+    }
+}
+
+/// The colours of a list as they are sent.
+struct Sent {
+    bd: u32,
+    n: usize,
+    bits: Vec<bool>,
+    taken: Vec<u16>,
+    literals: Vec<u16>,
+}
+
+/// What a crafted list is made for, and the colour that it happens to.
+#[derive(Clone, Copy)]
+struct Aim {
+    kind: Craft,
+    color: u16,
+}
+
+/// A cache, and a list with the palette's number of colours and its map.
+pub fn crafted(random: &mut Random, kind: Craft, palette: &Palette) -> (Vec<u16>, Vec<u32>) {
+    let color = random.pick(&palette.colors);
+    let aim = Aim { kind, color };
+    let cache = crafted_cache(random, aim, palette);
+    let mut sent = send(random, aim, palette, &cache);
+    if kind == Craft::LiteralTaken {
+        send_again(random, &mut sent);
+    }
+    let width = match kind {
+        Craft::StepWidth => sent.bd - 3 + random.below(4) as u32,
+        _ => least_width(&sent),
+    };
+    let mut words = color_words(&sent, width);
+    words.extend(map_words(palette));
+    (cache, words)
+}
+
+/// A cache in which the aim can be met: mostly one that takes few colours, with what is wanted
+/// among its first entries.
+fn crafted_cache(random: &mut Random, aim: Aim, palette: &Palette) -> Vec<u16> {
+    let drawn = if aim.kind == Craft::AnyBits || random.one_in(4) {
+        random.pick(CacheKind::ALL)
+    } else {
+        random.pick(&[CacheKind::Empty, CacheKind::Part])
+    };
+    let wanted = match aim.kind {
+        Craft::TakenTwice | Craft::ZeroThenTaken => vec![aim.color; 2],
+        Craft::ZeroThenSent | Craft::LiteralTaken => vec![aim.color],
+        Craft::AboveTop => {
+            let least = top(palette.bd) as usize + 1;
+            let most = random.pick(&[least, 65_535]);
+            vec![random.between(least, most) as u16]
+        }
+        Craft::StepWidth | Craft::AnyBits => vec![],
+    };
+    let mut cache = cache_of(random, drawn, palette);
+    cache.truncate(LONGEST - wanted.len());
+    for entry in wanted {
+        let at = random.below(cache.len().min(4) + 1);
+        cache.insert(at, entry);
+    }
+    cache
+}
+
+/// What the cache did not take follows as literals, without some colours where it took more.
+fn send(random: &mut Random, aim: Aim, palette: &Palette, cache: &[u16]) -> Sent {
+    let n = palette.colors.len();
+    let bits = bits(random, aim, palette, cache);
+    let entries = cache.iter().zip(&bits);
+    let taken: Vec<u16> = entries.filter(|e| *e.1).map(|e| *e.0).collect();
+    let mut literals = palette.colors.clone();
+    literals.retain(|color| !taken.contains(color));
+    while literals.len() > n - taken.len() {
+        literals.remove(random.below(literals.len()));
+    }
+    Sent {
+        bd: palette.bd,
+        n,
+        bits,
+        taken,
+        literals,
+    }
+}
+
+/// Bits by the aim, else as the listing has them, until n colours are taken.
+fn bits(random: &mut Random, aim: Aim, palette: &Palette, cache: &[u16]) -> Vec<bool> {
+    let (mut bits, mut taken) = (vec![], vec![]);
+    let mut met = 0;
+    for &entry in cache {
+        if taken.len() == palette.colors.len() {
+            break;
+        }
+        let due = palette.colors.contains(&entry) && !taken.contains(&entry);
+        let above = u32::from(entry) > top(palette.bd);
+        let aimed = entry == aim.color;
+        met += usize::from(aimed);
+        let bit = match aim.kind {
+            Craft::TakenTwice if aimed => met <= 2,
+            Craft::ZeroThenSent if aimed => false,
+            Craft::ZeroThenTaken if aimed => met == 2,
+            Craft::AboveTop if above => !random.one_in(4),
+            Craft::AnyBits => random.one_in(3),
+            _ => due,
+        };
+        bits.push(bit);
+        if bit {
+            taken.push(entry);
+        }
+    }
+    bits
+}
+
+/// One of the literals becomes a colour that was taken.
+fn send_again(random: &mut Random, sent: &mut Sent) {
+    if sent.taken.is_empty() || sent.literals.is_empty() {
+        return;
+    }
+    let at = random.below(sent.literals.len());
+    sent.literals[at] = random.pick(&sent.taken);
+    sent.literals.sort_unstable();
+}
+
+fn steps(sent: &Sent) -> impl Iterator<Item = u32> + '_ {
+    let step = |pair: &[u16]| u32::from(pair[1] - pair[0]);
+    sent.literals.windows(2).map(step)
+}
+
+fn least_width(sent: &Sent) -> u32 {
+    ceil_log2(steps(sent).max().unwrap_or(0)).max(sent.bd - 3)
+}
+
+/// The colours' words with a given start for the width of the steps.
+fn color_words(sent: &Sent, mut width: u32) -> Vec<u32> {
+    let bypass = |width: u32, value: u32| (1 << 24) + (width << 16) + value;
+    let mut words = vec![(3 << 24) + sent.n as u32 - 2];
+    words.extend(sent.bits.iter().map(|&bit| bypass(1, u32::from(bit))));
+    let Some(&first) = sent.literals.first() else {
+        return words;
+    };
+    words.push(bypass(sent.bd, u32::from(first)));
+    if sent.literals.len() > 1 {
+        words.push(bypass(2, width - (sent.bd - 3)));
+    }
+    let mut range = top(sent.bd) - u32::from(first);
+    for step in steps(sent) {
+        words.push(bypass(width, step - 1));
+        range -= step;
+        width = width.min(ceil_log2(range));
+    }
+    words
+}
+
+/// The map's words hang on the number of colours only. Without a cache n + 2 words stand before
+/// them: the size, the first colour, the width and n - 1 steps.
+fn map_words(palette: &Palette) -> Vec<u32> {
+    list(palette, &[]).split_off(palette.colors.len() + 2)
+}

@@ -1,0 +1,100 @@
+//! Lists to be read back are of every kind and get every number, and the reader's two ways to 23
+//! agree on them.
+
+use palette_oracle::generate::crafted::Craft;
+use palette_oracle::generate::reads::{damaged_request, read_request, DamagedKinds, ReadDamage};
+use palette_oracle::reading::{read, read_words, unlisted, would_be_listed, ReadRequest, Unlisted};
+use std::collections::{BTreeMap, BTreeSet};
+
+const COUNT: u64 = 20_000;
+
+fn damaged() -> impl Iterator<Item = (ReadRequest, DamagedKinds)> {
+    (0..COUNT).map(|index| damaged_request(6, index))
+}
+
+fn number(request: &ReadRequest) -> u32 {
+    read(request).err().unwrap_or(0)
+}
+
+#[test]
+fn the_originals_lists_are_read_back() {
+    for index in 0..4000 {
+        let (request, palette, _) = read_request(6, index);
+        assert_eq!(read(&request), Ok(palette), "case {index}");
+    }
+}
+
+/// At least 1 in 100 each of 20 to 23.
+#[test]
+fn every_number_is_given() {
+    let mut counts = BTreeMap::new();
+    for (request, _) in damaged() {
+        *counts.entry(number(&request)).or_insert(0) += 1;
+    }
+    let numbers: Vec<u32> = counts.keys().copied().collect();
+    assert_eq!(numbers, [0, 1, 2, 7, 13, 20, 21, 22, 23]);
+    assert!(
+        (20..=23).all(|number| counts[&number] >= COUNT / 100),
+        "{counts:?}"
+    );
+}
+
+#[test]
+fn every_damage_and_craft_is_met() {
+    let kinds: Vec<DamagedKinds> = damaged().map(|(_, kinds)| kinds).collect();
+    for damage in ReadDamage::ALL {
+        assert!(kinds.iter().any(|k| k.damages == [*damage]));
+    }
+    for &craft in Craft::ALL {
+        assert!(kinds.iter().any(|k| k.craft == Some(craft)));
+    }
+    assert!(kinds.iter().any(|k| k.damages.len() == 2));
+}
+
+#[test]
+fn both_ways_to_23_agree() {
+    let mut rules = BTreeSet::new();
+    for (request, kinds) in damaged() {
+        let Ok(reading) = read_words(&request) else {
+            continue;
+        };
+        let broken = unlisted(&reading, &request.cache);
+        let listed = would_be_listed(&reading, &request);
+        assert_eq!(broken.is_empty(), listed, "{request:?}, {:?}", kinds.craft);
+        rules.extend(broken.iter().map(|rule| rule.name()));
+    }
+    assert_eq!(rules.len(), Unlisted::ALL.len());
+}
+
+/// What each craft is aimed at.
+#[test]
+fn crafts_meet_their_aims() {
+    let aims = [
+        (Craft::TakenTwice, Unlisted::EqualColors),
+        (Craft::LiteralTaken, Unlisted::EqualColors),
+        (Craft::ZeroThenSent, Unlisted::Passed),
+        (Craft::ZeroThenTaken, Unlisted::Passed),
+        (Craft::AboveTop, Unlisted::AboveTop),
+        (Craft::StepWidth, Unlisted::Wider),
+    ];
+    for (craft, rule) in aims {
+        let mut crafted = damaged().filter(|(_, k)| k.craft == Some(craft));
+        assert!(
+            crafted.any(|(request, _)| read_words(&request)
+                .is_ok_and(|reading| unlisted(&reading, &request.cache) == [rule])),
+            "{}",
+            craft.name()
+        );
+    }
+}
+
+/// A list that is 22, and without its last word 23.
+#[test]
+fn words_are_left_over_behind_unlisted_lists() {
+    let mut both = damaged().filter(|(request, _)| {
+        let mut shorter = request.clone();
+        shorter.words.pop();
+        number(request) == 22 && number(&shorter) == 23
+    });
+    assert!(both.next().is_some());
+}
