@@ -6,6 +6,7 @@ use crate::tally::Tally;
 use palette_compare::clock::Clock;
 use palette_compare::due::Same;
 use palette_oracle::answers::{list_answer, pred_answer, ListAnswer, PredAnswer};
+use palette_oracle::generate::palettes::PaletteKinds;
 use palette_oracle::generate::requests::{request, Request, RequestKinds};
 use palette_oracle::Palette;
 use palette_station::{list_into, pred_into, Colors, PaletteView, Refusal, MAX_COLORS};
@@ -41,7 +42,14 @@ fn count_kinds(tally: &mut Tally, kinds: &RequestKinds, listed: &ListAnswer, pre
     tally.kind("list number", format!("{:2}", listed.number));
     tally.kind("pred number", format!("{:2}", pred.number));
     tally.kind("cache", kinds.cache.name());
-    match kinds.palette {
+    count_palette(tally, kinds.palette);
+    for damage in &kinds.damages {
+        tally.kind("damage", damage.name());
+    }
+}
+
+pub fn count_palette(tally: &mut Tally, kinds: PaletteKinds) {
+    match kinds {
         Some((spacing, flags, cells)) => {
             tally.kind("spacing", spacing.name());
             tally.kind("flags", flags.name());
@@ -49,13 +57,10 @@ fn count_kinds(tally: &mut Tally, kinds: &RequestKinds, listed: &ListAnswer, pre
         }
         None => tally.kind("palette", "found"),
     }
-    for damage in &kinds.damages {
-        tally.kind("damage", damage.name());
-    }
 }
 
 /// The palette as the package takes it.
-fn lent(palette: &Palette) -> Result<PaletteView<'_>, Refusal> {
+pub fn lent(palette: &Palette) -> Result<PaletteView<'_>, Refusal> {
     Ok(PaletteView {
         width: palette.w,
         height: palette.h,

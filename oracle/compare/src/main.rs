@@ -7,6 +7,7 @@ mod environments;
 mod lists;
 mod long_reports;
 mod program;
+mod reads;
 mod reports;
 mod searches;
 mod tally;
@@ -17,7 +18,8 @@ use std::process::ExitCode;
 use std::time::Instant;
 
 const USAGE: &str =
-    "usage: compare search|lists|contexts|texts|reports|environments SEED COUNT [THREADS]\n\
+    "usage: compare search|lists|contexts|reads|damaged|texts|reports|environments SEED COUNT \
+     [THREADS]\n\
      | long-reports SEED";
 
 /// A thread for each core of a small machine.
@@ -56,6 +58,8 @@ fn run() -> Result<bool, String> {
         "search" => searches::compare(run),
         "lists" => lists::compare(run),
         "contexts" => contexts::compare(run),
+        "reads" => reads::compare_sound(run),
+        "damaged" => reads::compare_damaged(run),
         "texts" => texts::compare(run),
         "reports" => reports::compare(run),
         "environments" => environments::compare(run),

@@ -1,6 +1,6 @@
 //! `search`, cell by cell and bit by bit, with what it must leave alone.
 
-use crate::buffer::Buffer;
+use crate::buffer::{same_buffers, Buffer};
 use crate::drive::{drive, Run};
 use crate::tally::Tally;
 use palette_compare::clock::Clock;
@@ -8,7 +8,7 @@ use palette_compare::due::{Due, Same};
 use palette_oracle::answers::run_original;
 use palette_oracle::check::search_number;
 use palette_oracle::generate::searches::{search_request, SearchKinds, SearchRequest};
-use palette_oracle::{fill_costs, Found, Palette};
+use palette_oracle::{fill_costs, Palette};
 use palette_station::{search_into, Block, Costs, Refusal, COSTS};
 use std::time::Duration;
 
@@ -85,7 +85,7 @@ fn same_search(
         }
     }
     let mut same = due.same(&answer);
-    same.extend(same_buffers(&map, &flags, &due));
+    same.extend(same_buffers(&due, &map, &flags));
     same
 }
 
@@ -106,16 +106,4 @@ fn due(request: &SearchRequest, costs: &Costs, number: u32) -> (Due, Duration) {
     let found = run_original(request, number);
     let time = start.elapsed();
     (Due { number, found }, time)
-}
-
-/// After a refusal nothing is written.
-fn same_buffers(map: &Buffer<u8>, flags: &Buffer<u8>, due: &Due) -> [Same; 2] {
-    let (cells, lines) = match &due.found {
-        Some(Found { palette, .. }) => (&palette.map[..], &palette.flags[..]),
-        None => (&[][..], &[][..]),
-    };
-    [
-        ("map's buffer", map.holds(cells, u32::from)),
-        ("flags' buffer", flags.holds(lines, u32::from)),
-    ]
 }

@@ -14,7 +14,9 @@ pub struct Tally {
     shown: Vec<(u64, String)>,
     kinds: BTreeMap<String, u64>,
     ours: Duration,
-    original: Duration,
+    beside: Duration,
+    /// Whose time `beside` is.
+    name: &'static str,
 }
 
 impl Tally {
@@ -37,8 +39,13 @@ impl Tally {
     }
 
     pub fn time(&mut self, ours: Duration, original: Duration) {
+        self.time_beside("the original's", ours, original);
+    }
+
+    pub fn time_beside(&mut self, name: &'static str, ours: Duration, beside: Duration) {
+        self.name = name;
         self.ours += ours;
-        self.original += original;
+        self.beside += beside;
     }
 
     /// Takes in the cases of another.
@@ -51,7 +58,9 @@ impl Tally {
         for (kind, count) in other.kinds {
             *self.kinds.entry(kind).or_default() += count;
         }
-        self.time(other.ours, other.original);
+        if !other.name.is_empty() {
+            self.time_beside(other.name, other.ours, other.beside);
+        }
     }
 
     pub fn all_same(&self) -> bool {
@@ -68,14 +77,14 @@ impl Display for Tally {
             writeln!(f, "{kind:<28}{count:>10}")?;
         }
         write!(f, "cases {}, differences {}", self.cases, self.differences)?;
-        if self.original.is_zero() {
+        if self.beside.is_zero() {
             return Ok(());
         }
-        let (ours, original) = (self.ours.as_secs_f64(), self.original.as_secs_f64());
-        let ratio = ours / original;
+        let (ours, beside) = (self.ours.as_secs_f64(), self.beside.as_secs_f64());
+        let (name, ratio) = (self.name, ours / beside);
         write!(
             f,
-            "\naccepted cases: ours {ours:.2} s, the original's {original:.2} s, ratio {ratio:.2}"
+            "\naccepted cases: ours {ours:.2} s, {name} {beside:.2} s, ratio {ratio:.2}"
         )
     }
 }
