@@ -3,6 +3,7 @@
 use palette_oracle::generate::{blocks, caches, contexts, palettes};
 use palette_oracle::replay::{self, replayed};
 use palette_oracle::replay_blocks::{self, replayed_blocks};
+use palette_oracle::replay_reads::{self, replayed_reads};
 use palette_oracle::report_text::report;
 use palette_oracle::reported::reported;
 use palette_oracle::text::{answer, parse, Case};
@@ -14,6 +15,7 @@ const USAGE: &str =
     "usage: oracle answer | blocks SEED COUNT | lists SEED COUNT | contexts SEED COUNT | worked\n\
      | replay-input SEED COUNT | replay-output SEED COUNT\n\
      | replay-blocks-input SEED COUNT | replay-blocks-output SEED COUNT\n\
+     | read-input SEED COUNT | read-output SEED COUNT\n\
      | report-input SEED COUNT | report-output SEED COUNT";
 
 fn main() -> ExitCode {
@@ -32,6 +34,12 @@ fn main() -> ExitCode {
         }
         ["replay-blocks-output", seed, count] => {
             write_each(seed, count, replayed_blocks, output(replay_blocks::line))
+        }
+        ["read-input", seed, count] => {
+            write_each(seed, count, replayed_reads, input(replay_reads::bytes))
+        }
+        ["read-output", seed, count] => {
+            write_each(seed, count, replayed_reads, output(replay_reads::line))
         }
         ["report-input", seed, count] => write_report(seed, count, |text| text),
         ["report-output", seed, count] => write_report(seed, count, |text| report(&text)),
