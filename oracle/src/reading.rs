@@ -183,10 +183,10 @@ fn take_map(words: &mut Words, request: &ReadRequest, colors: Vec<u16>) -> Resul
 fn take_line(words: &mut Words, palette: &mut Palette, line: usize, flag: u32) -> Result<(), u32> {
     let (_, len) = check::lines(palette);
     for at in 0..len {
-        let place = place(palette, line, at);
+        let place = cell(palette, line, at);
         palette.map[place] = match flag {
-            1 if at > 0 => palette.map[self::place(palette, line, 0)],
-            2 => palette.map[self::place(palette, line - 1, at)],
+            1 if at > 0 => palette.map[cell(palette, line, 0)],
+            2 => palette.map[cell(palette, line - 1, at)],
             _ => take_index(words, palette, place)?,
         };
     }
@@ -194,7 +194,7 @@ fn take_line(words: &mut Words, palette: &mut Palette, line: usize, flag: u32) -
 }
 
 /// The place in the map of a line's cell.
-fn place(palette: &Palette, line: usize, at: usize) -> usize {
+fn cell(palette: &Palette, line: usize, at: usize) -> usize {
     if palette.transposed {
         at * palette.w + line
     } else {
