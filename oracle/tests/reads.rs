@@ -88,6 +88,15 @@ fn crafts_meet_their_aims() {
     }
 }
 
+/// A list that ends where no value is right, and one that goes on there.
+#[test]
+fn steps_from_the_top_are_due() {
+    let crafted = damaged().filter(|(_, kinds)| kinds.craft == Some(Craft::TopReached));
+    let left = crafted.filter(|(_, kinds)| kinds.damages.is_empty());
+    let numbers: BTreeSet<u32> = left.map(|(request, _)| number(&request)).collect();
+    assert!(numbers.contains(&20) && numbers.contains(&21));
+}
+
 /// A list that is 22, and without its last word 23.
 #[test]
 fn words_are_left_over_behind_unlisted_lists() {

@@ -1,4 +1,4 @@
-//! Lists in good form whose colours the listing would send otherwise: aimed at 23.
+//! Lists whose colours the listing would send otherwise: mostly in good form and aimed at 23.
 
 use super::caches::{cache_of, CacheKind, LONGEST};
 use super::random::Random;
@@ -22,6 +22,8 @@ kinds! {
         StepWidth = "step-width",
         /// Any bits for the cache.
         AnyBits = "any-bits",
+        /// The top level is reached with steps still due, so that no value is right for the next.
+        TopReached = "top-reached",
     }
 }
 
@@ -32,6 +34,13 @@ struct Sent {
     bits: Vec<bool>,
     taken: Vec<u16>,
     literals: Vec<u16>,
+}
+
+impl Sent {
+    /// How many literals there have to be.
+    fn due(&self) -> usize {
+        self.n - self.taken.len()
+    }
 }
 
 /// What a crafted list is made for, and the colour that it happens to.
@@ -47,15 +56,22 @@ pub fn crafted(random: &mut Random, kind: Craft, palette: &Palette) -> (Vec<u16>
     let aim = Aim { kind, color };
     let cache = crafted_cache(random, aim, palette);
     let mut sent = send(random, aim, palette, &cache);
-    if kind == Craft::LiteralTaken {
-        send_again(random, &mut sent);
+    match kind {
+        Craft::LiteralTaken => send_again(random, &mut sent),
+        Craft::TopReached => reach_top(random, &mut sent),
+        _ => {}
     }
     let width = match kind {
         Craft::StepWidth => sent.bd - 3 + random.below(4) as u32,
         _ => least_width(&sent),
     };
     let mut words = color_words(&sent, width);
-    words.extend(map_words(palette));
+    if sent.literals.len() == sent.due() || random.one_in(2) {
+        words.extend(map_words(palette));
+    } else {
+        // The list ends where the step from the top level is due.
+        words.pop();
+    }
     (cache, words)
 }
 
@@ -75,7 +91,7 @@ fn crafted_cache(random: &mut Random, aim: Aim, palette: &Palette) -> Vec<u16> {
             let most = random.pick(&[least, 65_535]);
             vec![random.between(least, most) as u16]
         }
-        Craft::StepWidth | Craft::AnyBits => vec![],
+        Craft::StepWidth | Craft::AnyBits | Craft::TopReached => vec![],
     };
     let mut cache = cache_of(random, drawn, palette);
     cache.truncate(LONGEST - wanted.len());
@@ -144,6 +160,14 @@ fn send_again(random: &mut Random, sent: &mut Sent) {
     sent.literals.sort_unstable();
 }
 
+/// Literals up to one before the last, which becomes the top level.
+fn reach_top(random: &mut Random, sent: &mut Sent) {
+    if sent.due() > 1 {
+        sent.literals.truncate(random.between(1, sent.due() - 1));
+        *sent.literals.last_mut().expect("one is left") = top(sent.bd) as u16;
+    }
+}
+
 fn steps(sent: &Sent) -> impl Iterator<Item = u32> + '_ {
     let step = |pair: &[u16]| u32::from(pair[1] - pair[0]);
     sent.literals.windows(2).map(step)
@@ -153,7 +177,8 @@ fn least_width(sent: &Sent) -> u32 {
     ceil_log2(steps(sent).max().unwrap_or(0)).max(sent.bd - 3)
 }
 
-/// The colours' words with a given start for the width of the steps.
+/// The colours' words with a given start for the width of the steps. If literals are missing, one
+/// step more is sent.
 fn color_words(sent: &Sent, mut width: u32) -> Vec<u32> {
     let bypass = |width: u32, value: u32| (1 << 24) + (width << 16) + value;
     let mut words = vec![(3 << 24) + sent.n as u32 - 2];
@@ -162,7 +187,7 @@ fn color_words(sent: &Sent, mut width: u32) -> Vec<u32> {
         return words;
     };
     words.push(bypass(sent.bd, u32::from(first)));
-    if sent.literals.len() > 1 {
+    if sent.due() > 1 {
         words.push(bypass(2, width - (sent.bd - 3)));
     }
     let mut range = top(sent.bd) - u32::from(first);
@@ -170,6 +195,9 @@ fn color_words(sent: &Sent, mut width: u32) -> Vec<u32> {
         words.push(bypass(width, step - 1));
         range -= step;
         width = width.min(ceil_log2(range));
+    }
+    if sent.literals.len() < sent.due() {
+        words.push(bypass(width, 0));
     }
     words
 }

@@ -14,6 +14,8 @@ kinds! {
         First = "first",
         ByOne = "second-by-one",
         AtLimit = "second-at-limit",
+        /// Cut to a byte it would be the same again.
+        Raised = "second-raised",
         AnyWord = "any-word",
         Dropped = "dropped",
         Added = "added",
@@ -143,6 +145,10 @@ fn changed(random: &mut Random, kind: ReadDamage, word: u32) -> u32 {
             put(its_kind, first, second & 65_535)
         }
         ReadDamage::AtLimit => put(its_kind, first, limit(random, word)),
+        ReadDamage::Raised => {
+            let second = second + 256 * random.pick(&[1, 2, 16, 255]);
+            put(its_kind, first, second & 65_535)
+        }
         _ => any_word(random),
     }
 }
