@@ -94,6 +94,13 @@ pub fn ceil_log2(value: u32) -> u32 {
     value.max(1).next_power_of_two().trailing_zeros()
 }
 
+/// The width that the steps of ascending literals begin with.
+pub fn step_width(literals: &[u16], bd: u32) -> u32 {
+    let step = |pair: &[u16]| u32::from(pair[1] - pair[0]);
+    let largest = literals.windows(2).map(step).max();
+    ceil_log2(largest.unwrap_or(0)).max(bd - 3)
+}
+
 pub(crate) fn sides_fit(w: usize, h: usize) -> bool {
     (1..=64).contains(&w) && (1..=64).contains(&h)
 }

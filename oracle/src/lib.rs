@@ -27,6 +27,6 @@ pub mod worked;
 pub use c_interface::{rs_block_allowed, rs_context, rs_list, rs_pred, rs_search};
 pub use lent::{Costs, COSTS};
 pub use original::{
-    block_allowed, context, fill_costs, list, pred, raw_width, search, unpack, Block, Corner,
+    block_allowed, context, fill_costs, list, pack, pred, raw_width, search, unpack, Block, Corner,
     Found, Palette,
 };

@@ -136,6 +136,11 @@ pub fn unpack(word: u32) -> (u32, u32, u32) {
     (word >> 24, word >> 16 & 0xff, word & 0xffff)
 }
 
+/// The call word of kind, first and second.
+pub fn pack((kind, first, second): (u32, u32, u32)) -> u32 {
+    (kind << 24) + (first << 16) + second
+}
+
 /// Raw width is document 01's, not the original's: widths of the bypass calls, and ceil_log2(n)
 /// for the uniform call.
 pub fn raw_width(words: &[u32]) -> u32 {

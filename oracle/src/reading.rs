@@ -1,7 +1,7 @@
 //! Reads a call list back. Written from document 02's L2 and document 01's rules, not from our
 //! crates, so that it can bear witness against them.
 
-use crate::check::{self, ceil_log2, list_number, sides_fit, top};
+use crate::check::{self, ceil_log2, list_number, sides_fit, step_width, top};
 use crate::original::{list, unpack, Palette};
 
 /// What a reading is asked.
@@ -246,11 +246,13 @@ kinds! {
 
 /// All that the four rules find; nothing exactly where the listing would write the list.
 pub fn unlisted(reading: &Reading, cache: &[u16]) -> Vec<Unlisted> {
+    let Palette { bd, colors, .. } = &reading.palette;
+    let least = step_width(&reading.literals, *bd);
     let holds = |kind: &Unlisted| match kind {
-        Unlisted::EqualColors => reading.palette.colors.windows(2).any(|c| c[0] == c[1]),
-        Unlisted::AboveTop => taken(reading, cache).any(|c| u32::from(c) > top(reading.palette.bd)),
+        Unlisted::EqualColors => colors.windows(2).any(|pair| pair[0] == pair[1]),
+        Unlisted::AboveTop => taken(reading, cache).any(|color| u32::from(color) > top(*bd)),
         Unlisted::Passed => passed_over(reading, cache),
-        Unlisted::Wider => reading.width.is_some_and(|w| w > least_width(reading)),
+        Unlisted::Wider => reading.width.is_some_and(|width| width != least),
     };
     Unlisted::ALL.iter().copied().filter(holds).collect()
 }
@@ -267,10 +269,4 @@ fn passed_over(reading: &Reading, cache: &[u16]) -> bool {
         reading.literals.contains(color) || entries[at..].contains(&(color, &true))
     };
     (0..entries.len()).any(|at| !entries[at].1 && sent(at))
-}
-
-fn least_width(reading: &Reading) -> u32 {
-    let step = |pair: &[u16]| u32::from(pair[1] - pair[0]);
-    let largest = reading.literals.windows(2).map(step).max();
-    ceil_log2(largest.unwrap_or(0)).max(reading.palette.bd - 3)
 }

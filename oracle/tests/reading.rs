@@ -2,12 +2,7 @@
 
 use palette_oracle::check::ceil_log2;
 use palette_oracle::reading::{read, read_words, unlisted, ReadRequest, Unlisted};
-use palette_oracle::{list, Palette};
-
-/// A word of three fields.
-fn word((kind, first, second): (u32, u32, u32)) -> u32 {
-    (kind << 24) + (first << 16) + second
-}
+use palette_oracle::{list, pack, Palette};
 
 const SIZE_2: (u32, u32, u32) = (3, 0, 0);
 const PLAIN: (u32, u32, u32) = (1, 1, 0);
@@ -30,7 +25,7 @@ fn one_cell(cache: &[u16], colors: &[(u32, u32, u32)]) -> ReadRequest {
         h: 1,
         bd: 8,
         cache: cache.to_vec(),
-        words: calls.into_iter().map(word).collect(),
+        words: calls.into_iter().map(pack).collect(),
         map_room: 1,
         flag_room: 1,
     }
@@ -123,7 +118,7 @@ fn each_word_has_its_kind_first_field_and_range() {
     }
     let with = |place: usize, call| {
         let mut request = sound();
-        request.words[place] = word(call);
+        request.words[place] = pack(call);
         number(&request)
     };
     assert_eq!(with(0, (3, 0, 7)), 21);
@@ -142,8 +137,8 @@ fn a_step_ends_at_the_top() {
     // The width of the second step is 0 at one below the top, and allows only 0.
     let third = |step| {
         let mut request = one_cell(&[], &[(1, 8, 253), (1, 2, 0), (1, 5, 0), (1, 0, step)]);
-        request.words[0] = word((3, 0, 1));
-        request.words[7] = word((2, 3, 0));
+        request.words[0] = pack((3, 0, 1));
+        request.words[7] = pack((2, 3, 0));
         number(&request)
     };
     assert_eq!((third(0), third(1)), (0, 21));

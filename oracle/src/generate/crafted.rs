@@ -2,8 +2,8 @@
 
 use super::caches::{cache_of, CacheKind, LONGEST};
 use super::random::Random;
-use crate::check::{ceil_log2, top};
-use crate::original::{list, Palette};
+use crate::check::{ceil_log2, step_width, top};
+use crate::original::{list, pack, Palette};
 
 kinds! {
     /// What is sent otherwise. Now and then a crafted list is sound all the same.
@@ -63,7 +63,7 @@ pub fn crafted(random: &mut Random, kind: Craft, palette: &Palette) -> (Vec<u16>
     }
     let width = match kind {
         Craft::StepWidth => sent.bd - 3 + random.below(4) as u32,
-        _ => least_width(&sent),
+        _ => step_width(&sent.literals, sent.bd),
     };
     let mut words = color_words(&sent, width);
     if sent.literals.len() == sent.due() || random.one_in(2) {
@@ -168,20 +168,11 @@ fn reach_top(random: &mut Random, sent: &mut Sent) {
     }
 }
 
-fn steps(sent: &Sent) -> impl Iterator<Item = u32> + '_ {
-    let step = |pair: &[u16]| u32::from(pair[1] - pair[0]);
-    sent.literals.windows(2).map(step)
-}
-
-fn least_width(sent: &Sent) -> u32 {
-    ceil_log2(steps(sent).max().unwrap_or(0)).max(sent.bd - 3)
-}
-
 /// The colours' words with a given start for the width of the steps. If literals are missing, one
 /// step more is sent.
 fn color_words(sent: &Sent, mut width: u32) -> Vec<u32> {
-    let bypass = |width: u32, value: u32| (1 << 24) + (width << 16) + value;
-    let mut words = vec![(3 << 24) + sent.n as u32 - 2];
+    let bypass = |width, value| pack((1, width, value));
+    let mut words = vec![pack((3, 0, sent.n as u32 - 2))];
     words.extend(sent.bits.iter().map(|&bit| bypass(1, u32::from(bit))));
     let Some(&first) = sent.literals.first() else {
         return words;
@@ -191,7 +182,8 @@ fn color_words(sent: &Sent, mut width: u32) -> Vec<u32> {
         words.push(bypass(2, width - (sent.bd - 3)));
     }
     let mut range = top(sent.bd) - u32::from(first);
-    for step in steps(sent) {
+    for pair in sent.literals.windows(2) {
+        let step = u32::from(pair[1] - pair[0]);
         words.push(bypass(width, step - 1));
         range -= step;
         width = width.min(ceil_log2(range));

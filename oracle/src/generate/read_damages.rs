@@ -4,7 +4,7 @@ use super::caches::LONGEST;
 use super::damages::{self, lacking, MOST};
 use super::random::Random;
 use super::sides::{depth, side};
-use crate::original::unpack;
+use crate::original::{pack, unpack};
 use crate::reading::ReadRequest;
 
 kinds! {
@@ -129,25 +129,24 @@ fn place(random: &mut Random, words: &[u32]) -> usize {
 
 fn changed(random: &mut Random, kind: ReadDamage, word: u32) -> u32 {
     let (its_kind, first, second) = unpack(word);
-    let put = |kind: u32, first: u32, second: u32| (kind << 24) + (first << 16) + second;
     match kind {
         ReadDamage::Kind => {
             let kind = random.pick(&[0, 1, 2, 3, 4, 5, 6, 128 | its_kind, 255]);
-            put(kind, first, second)
+            pack((kind, first, second))
         }
         ReadDamage::First => {
             let any = random.below(256) as u32;
             let first = random.pick(&[first ^ 1, first + 1, first.saturating_sub(1), any]);
-            put(its_kind, first & 255, second)
+            pack((its_kind, first & 255, second))
         }
         ReadDamage::ByOne => {
             let second = second + random.pick(&[1, 65_535]);
-            put(its_kind, first, second & 65_535)
+            pack((its_kind, first, second & 65_535))
         }
-        ReadDamage::AtLimit => put(its_kind, first, limit(random, word)),
+        ReadDamage::AtLimit => pack((its_kind, first, limit(random, word))),
         ReadDamage::Raised => {
             let second = second + 256 * random.pick(&[1, 2, 16, 255]);
-            put(its_kind, first, second & 65_535)
+            pack((its_kind, first, second & 65_535))
         }
         _ => any_word(random),
     }

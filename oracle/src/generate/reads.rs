@@ -5,7 +5,7 @@ use super::crafted::{crafted, Craft};
 use super::palettes::{self, draw_kinds, made, shape, PaletteKinds};
 use super::random::{Beside, Random};
 use super::read_damages::{damage, set_rooms};
-use super::sides::side;
+use super::sides::small_sides;
 use crate::original::{list, Palette};
 use crate::reading::ReadRequest;
 
@@ -65,16 +65,6 @@ pub fn damaged_request(seed: u64, index: u64) -> (ReadRequest, DamagedKinds) {
         palette_of(random, sides)
     };
     damaged_list(random, &palette)
-}
-
-/// A few cells; one side is now and then any.
-fn small_sides(random: &mut Random) -> (usize, usize) {
-    let mut sides = [random.between(1, 8), random.between(1, 6)];
-    if random.one_in(8) {
-        sides[0] = side(random);
-    }
-    random.shuffle(&mut sides);
-    sides.into()
 }
 
 pub fn palette_of(random: &mut Random, sides: (usize, usize)) -> Palette {

@@ -5,7 +5,7 @@ use super::caches::{cache_of, CacheKind};
 use super::palettes::{draw_kinds, made, shape, Shape};
 use super::random::{Beside, Random};
 use super::requests::{damage, Damage, Request};
-use super::sides::{side, sides};
+use super::sides::{sides, small_sides};
 use super::texts::{any_byte, text_from, TextKind};
 use crate::listing_text::{lines_of, text_of};
 
@@ -97,7 +97,8 @@ fn draw_blocks(random: &mut Random) -> Vec<Lines> {
 fn block(random: &mut Random, shares: Shares) -> Lines {
     let damages = draw_damages(random, shares.refused);
     if !happens(random, shares.large) {
-        small(random, &damages)
+        let sides = small_sides(random);
+        any(random, sides, &damages)
     } else if random.one_in(2) {
         greatest(random, &damages)
     } else {
@@ -117,16 +118,6 @@ fn draw_damages(random: &mut Random, refused: usize) -> Vec<Damage> {
 
 fn happens(random: &mut Random, times: usize) -> bool {
     times > 0 && random.one_in(times)
-}
-
-/// Sides of a few cells; one of them is now and then any.
-fn small(random: &mut Random, damages: &[Damage]) -> Lines {
-    let mut sides = [random.between(1, 8), random.between(1, 6)];
-    if random.one_in(8) {
-        sides[0] = side(random);
-    }
-    random.shuffle(&mut sides);
-    any(random, sides.into(), damages)
 }
 
 /// Any depth, colours, cache and map.

@@ -44,6 +44,16 @@ pub fn search_sides(random: &mut Random) -> (usize, usize) {
     }
 }
 
+/// A few cells; one side is now and then any.
+pub fn small_sides(random: &mut Random) -> (usize, usize) {
+    let mut sides = [random.between(1, 8), random.between(1, 6)];
+    if random.one_in(8) {
+        sides[0] = side(random);
+    }
+    random.shuffle(&mut sides);
+    sides.into()
+}
+
 pub fn depth(random: &mut Random) -> u32 {
     random.between(8, 12) as u32
 }
