@@ -9,6 +9,7 @@ use replaying::bits_of;
 use replaying::pair;
 use replaying::print_buffer;
 use replaying::print_number;
+use replaying::read_cache;
 use replaying::read_front;
 use replaying::size;
 use replaying::wide;
@@ -59,18 +60,6 @@ fn asked_by(head: &[u8; 29]) -> Asked
         word_room: size(head[9], head[10], 4240),
         value_room: size(head[11], head[12], 4240),
         colors,
-    }
-}
-
-fn read_cache(cache: &mut [u16], count: usize)
-    requires { ⌜ (count < 256) × (count ≤ length (now cache)) ⌝ }
-{
-    let mut bytes = [0u8; 512];
-    read_front(&mut bytes, 2 * count);
-    let mut i: usize = 0;
-    while i < count {
-        cache[i] = pair(bytes[2 * i], bytes[2 * i + 1]);
-        i += 1;
     }
 }
 

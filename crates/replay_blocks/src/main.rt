@@ -8,9 +8,12 @@
 // cells, whether the places behind them kept what they held, a hash of the flags, and whether the places behind them
 // kept what they held.
 // Functions here may have a `requires`.
+use replaying::area;
 use replaying::bits_of;
-use replaying::pair;
-use replaying::print_buffer;
+use replaying::four;
+use replaying::lines_of;
+use replaying::print_answer;
+use replaying::print_bytes;
 use replaying::print_number;
 use replaying::size;
 use replaying::wide;
@@ -32,10 +35,6 @@ struct Asked {
     again: bool,
 }
 
-fn long(low: u16, high: u16) -> u32 {
-    (high as u32) * 65536 + low as u32
-}
-
 // The float of any bits: `from_bits` takes no NaN's.
 fn float_of(bits: u32) -> f32 {
     if 2139095040 < bits % 2147483648 {
@@ -45,11 +44,7 @@ fn float_of(bits: u32) -> f32 {
 }
 
 fn float(b0: u8, b1: u8, b2: u8, b3: u8) -> f32 {
-    float_of(long(pair(b0, b1), pair(b2, b3)))
-}
-
-fn area(width: u8, height: u8) -> usize {
-    (width as usize) * (height as usize)
+    float_of(four(b0, b1, b2, b3))
 }
 
 fn asked_by(head: &[u8; 15]) -> Asked
@@ -91,47 +86,6 @@ fn costs_read(count: usize) -> [f32; 560]
     costs
 }
 
-// The bytes as words, with the byte of a fresh buffer behind them.
-fn words_of(bytes: &[u8]) -> [u32; 4240] {
-    let mut words = [238; 4240];
-    let count = replaying::at_most(bytes.len(), 4240);
-    let mut i: usize = 0;
-    while i < count {
-        words[i] = word(bytes[i]);
-        i += 1;
-    }
-    words
-}
-
-fn print_colors(colors: [u16; 8]) {
-    let mut i: usize = 0;
-    while i < 8 {
-        print_number(colors[i] as u64);
-        i += 1;
-    }
-}
-
-fn lines_of(width: usize, height: usize, transposed: bool) -> usize {
-    if transposed { width } else { height }
-}
-
-fn orientation(transposed: bool) -> u64 {
-    if transposed { 1 } else { 0 }
-}
-
-fn print_answer(number: u32, n: usize, transposed: bool, colors: [u16; 8], bits: f32) {
-    print_number(number as u64);
-    print_number(n as u64);
-    print_number(orientation(transposed));
-    print_colors(colors);
-    print_number(bits_of(bits) as u64);
-}
-
-fn print_bytes(bytes: &[u8], count: usize) {
-    let words = words_of(bytes);
-    print_buffer(&words, count, 238);
-}
-
 // Lends the front of both buffers, and prints the answer and what the buffers then hold.
 fn replay_search(a: Asked, samples: &[f32], costs: &[f32], map: &mut [u8], flags: &mut [u8])
     requires { ⌜ (a .«map_room» ≤ length (now map)) × (a .«flag_room» ≤ length (now flags)) ⌝ }
@@ -150,7 +104,8 @@ fn replay_search(a: Asked, samples: &[f32], costs: &[f32], map: &mut [u8], flags
     );
     let colors = found.colors;
     let lines = lines_of(a.width, a.height, found.transposed);
-    print_answer(found.number, found.n, found.transposed, colors, found.bits);
+    print_answer(found.number, found.n, found.transposed, colors);
+    print_number(bits_of(found.bits) as u64);
     print_bytes(map, written(found.number, a.cells));
     print_bytes(flags, written(found.number, lines));
 }

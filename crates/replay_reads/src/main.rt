@@ -6,9 +6,12 @@
 // places behind them kept what they held, a hash of the flags, and whether the places behind them kept what they
 // held.
 // Functions here may have a `requires`.
-use replaying::pair;
-use replaying::print_buffer;
-use replaying::print_number;
+use replaying::area;
+use replaying::four;
+use replaying::lines_of;
+use replaying::print_answer;
+use replaying::print_bytes;
+use replaying::read_cache;
 use replaying::read_front;
 use replaying::size;
 use replaying::wide;
@@ -28,10 +31,6 @@ struct Asked {
     count: usize,
 }
 
-fn area(width: u8, height: u8) -> usize {
-    (width as usize) * (height as usize)
-}
-
 fn asked_by(head: &[u8; 9]) -> Asked
     ensures { λ r. ⌜ (r .cached < 256) × (r .«flag_room» ≤ 80) × (r .«map_room» ≤ 4240) × (r .count ≤ 4240) ⌝ }
 {
@@ -47,26 +46,6 @@ fn asked_by(head: &[u8; 9]) -> Asked
     }
 }
 
-fn read_cache(cache: &mut [u16], count: usize)
-    requires { ⌜ (count < 256) × (count ≤ length (now cache)) ⌝ }
-{
-    let mut bytes = [0u8; 512];
-    read_front(&mut bytes, 2 * count);
-    let mut i: usize = 0;
-    while i < count {
-        cache[i] = pair(bytes[2 * i], bytes[2 * i + 1]);
-        i += 1;
-    }
-}
-
-fn long(low: u16, high: u16) -> u32 {
-    (high as u32) * 65536 + low as u32
-}
-
-fn four(b0: u8, b1: u8, b2: u8, b3: u8) -> u32 {
-    long(pair(b0, b1), pair(b2, b3))
-}
-
 // Reads as many words into the front.
 fn read_words(words: &mut [u32], count: usize)
     requires { ⌜ (count ≤ 4240) × (count ≤ length (now words)) ⌝ }
@@ -79,46 +58,6 @@ fn read_words(words: &mut [u32], count: usize)
         words[i] = four(bytes[at], bytes[at + 1], bytes[at + 2], bytes[at + 3]);
         i += 1;
     }
-}
-
-// The bytes as words, with the byte of a fresh buffer behind them.
-fn words_of(bytes: &[u8]) -> [u32; 4240] {
-    let mut words = [238; 4240];
-    let count = replaying::at_most(bytes.len(), 4240);
-    let mut i: usize = 0;
-    while i < count {
-        words[i] = word(bytes[i]);
-        i += 1;
-    }
-    words
-}
-
-fn print_colors(colors: [u16; 8]) {
-    let mut i: usize = 0;
-    while i < 8 {
-        print_number(colors[i] as u64);
-        i += 1;
-    }
-}
-
-fn lines_of(width: usize, height: usize, transposed: bool) -> usize {
-    if transposed { width } else { height }
-}
-
-fn orientation(transposed: bool) -> u64 {
-    if transposed { 1 } else { 0 }
-}
-
-fn print_answer(number: u32, n: usize, transposed: bool, colors: [u16; 8]) {
-    print_number(number as u64);
-    print_number(n as u64);
-    print_number(orientation(transposed));
-    print_colors(colors);
-}
-
-fn print_bytes(bytes: &[u8], count: usize) {
-    let words = words_of(bytes);
-    print_buffer(&words, count, 238);
 }
 
 // Lends the front of both buffers, and prints the answer and what the buffers then hold.

@@ -27,6 +27,15 @@ pub fn pair(low: u8, high: u8) -> u16
     (high as u16) * 256 + low as u16
 }
 
+fn long(low: u16, high: u16) -> u32 {
+    (high as u32) * 65536 + low as u32
+}
+
+// The number of four bytes, the low one first.
+pub fn four(b0: u8, b1: u8, b2: u8, b3: u8) -> u32 {
+    long(pair(b0, b1), pair(b2, b3))
+}
+
 pub fn at_most(v: usize, most: usize) -> usize
     ensures { λ r. ⌜ r ≡ min v most ⌝ }
 {
@@ -40,10 +49,27 @@ pub fn size(low: u8, high: u8, most: usize) -> usize
     at_most(pair(low, high) as usize, most)
 }
 
+pub fn area(width: u8, height: u8) -> usize {
+    (width as usize) * (height as usize)
+}
+
 pub fn read_front(bytes: &mut [u8], count: usize)
     requires { ⌜ count ≤ length (now bytes) ⌝ }
 {
     io::read_full(0, &mut bytes[..count]);
+}
+
+// Reads as many cache entries into the front, of two bytes each.
+pub fn read_cache(cache: &mut [u16], count: usize)
+    requires { ⌜ (count < 256) × (count ≤ length (now cache)) ⌝ }
+{
+    let mut bytes = [0u8; 512];
+    read_front(&mut bytes, 2 * count);
+    let mut i: usize = 0;
+    while i < count {
+        cache[i] = pair(bytes[2 * i], bytes[2 * i + 1]);
+        i += 1;
+    }
 }
 
 // One step of the hash: times 65,599 and plus the word, below a prime, so that nothing wraps.
@@ -104,4 +130,45 @@ pub fn print_number(v: u64) {
 pub fn print_buffer(words: &[u32; 4240], count: usize, before: u32) {
     print_number(hash(words, at_most(count, 4240)));
     print_number(kept(words, count, before));
+}
+
+// The bytes as words, with the byte of a fresh buffer behind them.
+fn words_of(bytes: &[u8]) -> [u32; 4240] {
+    let mut words = [238; 4240];
+    let count = at_most(bytes.len(), 4240);
+    let mut i: usize = 0;
+    while i < count {
+        words[i] = word(bytes[i]);
+        i += 1;
+    }
+    words
+}
+
+fn print_colors(colors: [u16; 8]) {
+    let mut i: usize = 0;
+    while i < 8 {
+        print_number(colors[i] as u64);
+        i += 1;
+    }
+}
+
+pub fn lines_of(width: usize, height: usize, transposed: bool) -> usize {
+    if transposed { width } else { height }
+}
+
+fn orientation(transposed: bool) -> u64 {
+    if transposed { 1 } else { 0 }
+}
+
+// The fields of a palette that was found or read.
+pub fn print_answer(number: u32, n: usize, transposed: bool, colors: [u16; 8]) {
+    print_number(number as u64);
+    print_number(n as u64);
+    print_number(orientation(transposed));
+    print_colors(colors);
+}
+
+pub fn print_bytes(bytes: &[u8], count: usize) {
+    let words = words_of(bytes);
+    print_buffer(&words, count, 238);
 }

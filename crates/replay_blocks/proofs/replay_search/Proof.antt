@@ -28,6 +28,15 @@ lines-of-requires c κs = search needs
 print-answer-requires : tie.Need-print-answer-requires
 print-answer-requires c κs = search needs
 
+bits-of-requires : tie.Need-bits-of-requires
+bits-of-requires c κs = search needs
+
+cast-print-number : tie.Need-cast-print-number
+cast-print-number c = search needs
+
+print-number-requires : tie.Need-print-number-requires
+print-number-requires c κs = search needs
+
 written-requires : tie.Need-written-requires
 written-requires c κs = search needs
 
@@ -60,6 +69,9 @@ replay-search-spec =
     search-requires
     lines-of-requires
     print-answer-requires
+    bits-of-requires
+    cast-print-number
+    print-number-requires
     written-requires
     print-bytes-requires
     written-requires-2

@@ -3,8 +3,8 @@ use native.Mathlib.Nat.{mul-le-mul, lt-of-le-of-lt}
 use native.Mathlib.Omega.{arith}
 use lib.Dec.{lit<}
 use borrow.Author.Needs.{needs}
-use Rattle.replay_reads.proofs.area.Statement.{statement}
-use Rattle.replay_reads.proofs.area.Tie as tie
+use Rattle.replaying.proofs.area.Statement.{statement}
+use Rattle.replaying.proofs.area.Tie as tie
 
 mul-result : tie.Need-mul-result
 mul-result c =

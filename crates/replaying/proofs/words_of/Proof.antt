@@ -1,7 +1,7 @@
 use borrow.Author.Needs.{needs}
 use Prim.Native.Nat.{_≤_, _-_}
-use Rattle.replay_reads.proofs.words_of.Statement.{statement}
-use Rattle.replay_reads.proofs.words_of.Tie as tie
+use Rattle.replaying.proofs.words_of.Statement.{statement}
+use Rattle.replaying.proofs.words_of.Tie as tie
 
 abbrev Inv-loop : tie.InvT-loop
 Inv-loop bytes words₀ count i₀ words i = i ≤ count

@@ -2,8 +2,8 @@ use borrow.Author.Needs.{needs}
 use Prim.Native.Nat.{_≤_, _-_}
 use mathlib.Core.Path.{_≡_}
 use lib.ListN.{length}
-use Rattle.replay.proofs.read_cache.Statement.{statement}
-use Rattle.replay.proofs.read_cache.Tie as tie
+use Rattle.replaying.proofs.read_cache.Statement.{statement}
+use Rattle.replaying.proofs.read_cache.Tie as tie
 
 abbrev Inv-loop : tie.InvT-loop
 Inv-loop cache₀ count bytes i₀ cache i = (i ≤ count) × (length cache ≡ length cache₀)

@@ -1,7 +1,7 @@
 use borrow.Author.Needs.{needs}
 use Prim.Native.Nat.{_≤_, _-_}
-use Rattle.replay_blocks.proofs.print_colors.Statement.{statement}
-use Rattle.replay_blocks.proofs.print_colors.Tie as tie
+use Rattle.replaying.proofs.print_colors.Statement.{statement}
+use Rattle.replaying.proofs.print_colors.Tie as tie
 
 abbrev Inv-loop : tie.InvT-loop
 Inv-loop colors i₀ i = i ≤ 8
