@@ -1,6 +1,6 @@
 -- The index at a rank, told from the indices that come first alone, is the one that the order has there. Assumes nothing.
 use Prim.Native.Nat.{ℕ, zero, suc, _+_, _-_, _≤_, _<_, min, max}
-use mathlib.Core.Bool.{Bool, true, false, cond, _||_, true≢false}
+use mathlib.Core.Bool.{Bool, true, false, _||_, true≢false}
 use mathlib.Core.Path.{_≡_, refl, sym, ap, _∙_}
 use mathlib.Core.List.{List, [], _∷_}
 use native.Mathlib.Nat.{le-of-lt, min-eq-left, min-eq-right, max-eq-left, max-eq-right}
@@ -9,7 +9,7 @@ use lib.Dec.{eqb, ltb, leb}
 use lib.ListN.{getD, length}
 use borrow.Author.Tests.{eqb-false, eq-eqb, ne-eqb, lt-ltb, le-ltb, leb-true, leb-false}
 use Rattle.lists.specs.Counted.{elem, bit}
-use Rattle.context.specs.Order.{Around, byThree, around, orderOf, rankOf}
+use Rattle.context.specs.Order.{Around, byThree, around, orderOf}
 use Rattle.context.specs.Parts.{held}
 use Rattle.context.specs.Ranks.{rankFrom}
 use Rattle.context.specs.declared.Near.{Near}

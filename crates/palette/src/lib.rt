@@ -103,7 +103,8 @@ pub fn read(
     map: &mut [u8],
     flags: &mut [u8],
 ) -> Palette
-    ensures { λ r. ⌜ Reads (reading width height bd (now (cache .entry)) (length (now (map .entry))) (length (now (flags .entry))) (now (words .entry)))
+    ensures { λ r. ⌜ Reads
+        (reading width height bd (now (cache .entry)) (length (now (map .entry))) (length (now (flags .entry))) (now (words .entry)))
         (now (map .entry)) (now (map .exit)) (now (flags .entry)) (now (flags .exit)) r ⌝ }
 {
     reading::read(width, height, bd, cache, words, map, flags)

@@ -1,15 +1,15 @@
 -- The cache bits one by one. Assumes nothing.
 use mathlib.Core.Path.{_≡_, refl, sym, ap, _∙_}
-use mathlib.Core.Bool.{Bool, true, false, cond}
+use mathlib.Core.Bool.{cond}
 use mathlib.Core.List.{List, [], _∷_}
-use Prim.Native.Nat.{ℕ, suc, _+_, _<_, _≤_}
+use Prim.Native.Nat.{ℕ, _+_, _<_, _≤_}
 use native.Mathlib.Numerals.{add-one}
 use native.Mathlib.Omega.{arith}
-use lib.Dec.{eqb, leb}
+use lib.Dec.{eqb}
 use lib.ListN.{length, getD, take, drop, drop-of-length-le}
-use lib.Seq.{drop-cons, length-take-le}
+use lib.Seq.{drop-cons}
 use borrow.Author.Tests.{eq-eqb, ne-eqb, le-leb, lt-leb}
-use Rattle.reader.specs.Reader.{Got, got, fault, after, ret, due}
+use Rattle.reader.specs.Reader.{Got, got, fault, after, ret}
 use Rattle.read_colors.specs.Colors.{insert, readBit, readCache}
 use Rattle.reader.specs.Steps.{told, Took}
 use Rattle.read_colors.specs.Held.{heldIn, Sound}
@@ -75,7 +75,11 @@ module _ (ws : List ℕ) (at : ℕ) (cache : List ℕ) (n : ℕ) (held : Held) (
     whole : readCache cache n [] (drop at ws) ≡ after (heldIn r ws) (readCache (drop (i + 1) cache) n)
     whole =
         let split : drop i cache ≡ getD cache i 0 ∷ drop (i + 1) cache = rw (drop-cons cache i 0 more, add-one) refl in
-        sym (v .reads) ∙ rw split (cache-next (getD cache i 0) (drop (i + 1) cache) (colorsIn held) n _ ws r (omega (arith, length-held held n (v .sound) most)) bit)
+        sym (v .reads) ∙ rw split (cache-next (getD cache i 0) (drop (i + 1) cache) (colorsIn held) n _ ws r (omega (
+          arith,
+          length-held held n
+              (v .sound) most,
+        )) bit)
 
     pub cache-fault : (r .place .fault ≡ 0 → ⊥) → readCache cache n [] (drop at ws) ≡ heldIn r ws
     cache-fault h = whole ∙ told-fault (r .place) (colorsIn r) ws (readCache (drop (i + 1) cache) n) (colorsIn r) h

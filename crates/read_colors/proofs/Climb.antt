@@ -1,13 +1,13 @@
 -- The literal colours one by one. Assumes nothing.
 use mathlib.Core.Path.{_≡_, refl, sym, ap, _∙_}
-use mathlib.Core.List.{List, [], _∷_}
-use Prim.Native.Nat.{ℕ, zero, suc, _+_, _-_, _^_, _<_, _≤_, min}
+use mathlib.Core.List.{List, []}
+use Prim.Native.Nat.{ℕ, suc, _+_, _-_, _^_, _<_, _≤_, min}
 use native.Mathlib.Omega.{arith}
-use lib.ListN.{length, take, drop}
+use lib.ListN.{length, drop}
 use Rattle.lists.proofs.Rest.{one-left, none-left}
 use Rattle.literals.specs.Literals.{cutBits}
 use Rattle.literals.proofs.Widths.{cut-bits-le}
-use Rattle.reader.specs.Reader.{Got, got, fault, after, ret, due}
+use Rattle.reader.specs.Reader.{Got, fault, after}
 use Rattle.read_colors.specs.Colors.{insert, readCache, readSteps, readMore, readLiterals, readSized, readColors}
 use Rattle.reader.specs.Steps.{told, Took}
 use Rattle.read_colors.specs.Held.{inEight, heldIn, Sound}
@@ -32,7 +32,8 @@ module _ (ws : List ℕ) (bd b c n : ℕ) (held : Held) (some : held .count < n)
   unfolding readSteps
   steps-whole =
       rw (one-left n (held .count) some)
-      (ap (λ (g : Got ℕ). after g (λ s. readSteps bd (cutBits bd b (c + 1 + s)) (c + 1 + s) (n - (held .count + 1)) (insert (c + 1 + s) (colorsIn held)))) (k .reads))
+      (ap (λ (g : Got ℕ). after g (λ s. readSteps bd (cutBits bd b (c + 1 + s)) (c + 1 + s) (n - (held .count + 1)) (insert (c + 1 + s)
+      (colorsIn held)))) (k .reads))
 
   pub steps-fault : (t .place .fault ≡ 0 → ⊥) → (r : Held) → r .place ≡ t .place
       → readSteps bd b c (n - held .count) (colorsIn held) (leftAt held ws) ≡ heldIn r ws
@@ -82,7 +83,8 @@ pub more-none : (ws : List ℕ) (bd c n : ℕ) (held : Held) → held .place .fa
 unfolding readMore
 more-none ws bd c n held s h = rw (none-left n (held .count) h) (sym (told-got (held .place) (colorsIn held) ws s))
 
-module _ (ws : List ℕ) (bd c n : ℕ) (held : Held) (some : held .count < n) (t : Taken) (k : Took ws (held .place .at) 1 2 4 t) (r : Held) (e : r .place ≡ t .place) where
+module _ (ws : List ℕ) (bd c n : ℕ) (held : Held) (some : held .count < n) (t : Taken) (k : Took ws (held .place .at) 1 2 4 t) (r : Held)
+    (e : r .place ≡ t .place) where
   more-whole : readMore bd c (n - held .count) (colorsIn held) (leftAt held ws)
       ≡ after (told (t .place) (t .second) ws) (λ v. readSteps bd (v + (bd - 3)) c (n - held .count) (colorsIn held))
   unfolding readMore
@@ -105,7 +107,8 @@ pub literals-none : (ws : List ℕ) (bd n : ℕ) (held : Held) → held .place .
 unfolding readLiterals
 literals-none ws bd n held s h = rw (none-left n (held .count) h) (sym (told-got (held .place) (colorsIn held) ws s))
 
-module _ (ws : List ℕ) (bd n : ℕ) (held : Held) (some : held .count < n) (t : Taken) (k : Took ws (held .place .at) 1 bd (2 ^ bd) t) (r : Held) (e : r .place ≡ t .place) where
+module _ (ws : List ℕ) (bd n : ℕ) (held : Held) (some : held .count < n) (t : Taken) (k : Took ws (held .place .at) 1 bd (2 ^ bd) t) (r : Held)
+    (e : r .place ≡ t .place) where
   literals-whole : readLiterals bd (n - held .count) (colorsIn held) (leftAt held ws)
       ≡ after (told (t .place) (t .second) ws) (λ c. readMore bd c (n - (held .count + 1)) (insert c (colorsIn held)))
   unfolding readLiterals

@@ -41,7 +41,8 @@ unfolding front
 sound-none p n = record { few = omega arith; eight = refl }
 
 -- one colour more
-module _ (h r : Held) (n c : ℕ) (s : Sound h n) (most : n ≤ 8) (one : r .count ≡ h .count + 1) (are : r .colors ≡ inEight (insert c (colorsIn h))) where
+module _ (h r : Held) (n c : ℕ) (s : Sound h n) (most : n ≤ 8) (one : r .count ≡ h .count + 1)
+    (are : r .colors ≡ inEight (insert c (colorsIn h))) where
   pub added : colorsIn r ≡ insert c (colorsIn h)
   added = rw (are, one) (eight-front (insert c (colorsIn h)) (h .count + 1) (omega (arith, length-insert c (colorsIn h), length-held h n s most)))
 

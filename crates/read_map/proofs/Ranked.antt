@@ -3,14 +3,11 @@ use mathlib.Core.Path.{_≡_, refl, sym, ap, _∙_}
 use mathlib.Core.Bool.{Bool, true, false}
 use mathlib.Core.List.{List}
 use Prim.Native.Nat.{ℕ, _+_, _*_, _-_, _<_, _≤_}
-use native.Mathlib.Nat.{add-comm}
 use native.Mathlib.Omega.{arith}
-use lib.Dec.{eqb}
-use lib.ListN.{length, getD, set, drop}
+use lib.ListN.{getD, set, drop}
 use borrow.Author.Tests.{eq-eqb, ne-eqb}
 use Rattle.context.specs.Map.{rowAt, colAt}
 use Rattle.context.specs.Order.{Around, orderOf}
-use Rattle.context.specs.Parts.{held}
 use Rattle.context.specs.declared.Near.{Near}
 use Rattle.context.proofs.Order.{order-below}
 use Rattle.near.specs.Near.{nearAt, Below, Usable, indexAt}

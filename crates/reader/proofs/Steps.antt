@@ -1,7 +1,7 @@
 -- One step at a place of a list, and readers one after the other by the places that they reach. Assumes nothing.
 use mathlib.Core.Path.{_≡_, refl, sym, ap, _∙_}
 use mathlib.Core.Bool.{Bool, true, false, cond, _&&_}
-use mathlib.Core.List.{List, [], _∷_}
+use mathlib.Core.List.{List}
 use mathlib.Core.Logic.{_⊎_, inl, inr, ⊎-elim}
 use Prim.Native.Nat.{ℕ, zero, suc, _+_, _-_, _<_, _≤_}
 use native.Mathlib.Nat.{eq-or-lt-of-le, le-of-suc-le-suc}
@@ -10,13 +10,11 @@ use native.Mathlib.Omega.{arith}
 use lib.Dec.{eqb, ltb, leb}
 use lib.ListN.{length, getD, drop, drop-of-length-le}
 use lib.Seq.{drop-cons}
-use borrow.Author.Tests.{eqb-true, eqb-false, eq-eqb, ne-eqb, lt-ltb, le-ltb, le-leb, lt-leb, ltb-true, ltb-false, leb-true}
-use Rattle.lists.proofs.Choice.{and-l, and-r}
+use borrow.Author.Tests.{eq-eqb, ne-eqb, lt-ltb, le-ltb, le-leb, lt-leb, ltb-true, ltb-false, leb-true}
 use Rattle.literals.specs.Words.{word}
-use Rattle.reader.specs.Reader.{Got, got, fault, after, Reader, _>>=_, ret, isDue, due, readUpTo}
+use Rattle.reader.specs.Reader.{Got, got, fault, after, Reader, ret, isDue, due, readUpTo}
 use Rattle.reader.specs.Steps.{stepAt, gotBy, told, Took}
 use Rattle.reader.specs.declared.Place.{Place}
-use Rattle.reader.specs.declared.Taken.{Taken}
 use Rattle.reader.specs.declared.Step.{Step}
 use Rattle.reader.specs.declared.Step.the-variants.{Second, Ended, Wrong}
 
@@ -56,12 +54,14 @@ module _ (ws : List ℕ) (at kind first limit : ℕ) where
       x : ℕ
       x = getD ws at 0
 
-      inner : (b : Bool) → cond b (got (x - word kind first 0) (drop (at + 1) ws)) (fault 21) ≡ gotBy (cond b (Second (x - word kind first 0)) Wrong) (drop (at + 1) ws)
+      inner : (b : Bool) → cond b (got (x - word kind first 0) (drop (at + 1) ws)) (fault 21) ≡ gotBy (cond b (Second (x - word kind first 0)) Wrong)
+          (drop (at + 1) ws)
       inner true = refl
       inner false = refl
 
       go : (b : Bool) → ltb at (length ws) ≡ b
-          → due kind first limit (drop at ws) ≡ gotBy (cond b (cond (isDue kind first limit x) (Second (x - word kind first 0)) Wrong) Ended) (drop (at + 1) ws)
+          → due kind first limit (drop at ws) ≡ gotBy (cond b (cond (isDue kind first limit x) (Second (x - word kind first 0)) Wrong) Ended)
+          (drop (at + 1) ws)
       go true e = rw (drop-cons ws at 0 (ltb-true at (length ws) e), ← add-one at) (inner (isDue kind first limit x))
       go false e = rw (drop-of-length-le ws {i = at} (ltb-false at (length ws) e)) refl
 
@@ -120,7 +120,8 @@ module _ (ws : List ℕ) (at kind first limit : ℕ) where
 pub told-made : {A B : Type 0} (p : Place) (a : A) (ws : List ℕ) (f : A → B) → after (told p a ws) (λ x. ret (f x)) ≡ told p (f a) ws
 unfolding told
 told-made {A} {B} p a ws f =
-    let go : (b : Bool) → after (cond b (got a (drop (p .at) ws)) (fault (p .fault))) (λ x. ret (f x)) ≡ cond b (got (f a) (drop (p .at) ws)) (fault (p .fault)) =
+    let go : (b : Bool) → after (cond b (got a (drop (p .at) ws)) (fault (p .fault))) (λ x. ret (f x)) ≡ cond b (got (f a) (drop (p .at) ws))
+    (fault (p .fault)) =
     elim [ true ↦ refl | false ↦ refl ] in
     go (eqb (p .fault) 0)
 

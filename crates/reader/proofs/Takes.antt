@@ -5,7 +5,7 @@ use Prim.Native.Nat.{ℕ, zero, suc, _<_}
 use native.Mathlib.Omega.{arith}
 use Rattle.lists.specs.Counted.{upTo}
 use Rattle.literals.specs.Words.{word}
-use Rattle.reader.specs.Reader.{Got, got, after, Reader, _>>=_, ret, due, readUpTo}
+use Rattle.reader.specs.Reader.{got, Reader, _>>=_, ret, due, readUpTo}
 use Rattle.reader.proofs.Words.{due-word}
 
 pub record Takes {S : Type 0} (rd : Reader S) (u : List ℕ) (K : S → Type 0) : Type 0 where

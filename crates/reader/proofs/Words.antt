@@ -9,7 +9,7 @@ use lib.Dec.{eqb, ltb, leb}
 use borrow.Author.Tests.{lt-ltb, le-leb, eq-eqb, eqb-true, ltb-true, ltb-false, leb-true, leb-false}
 use Rattle.lists.specs.Counted.{bit}
 use Rattle.literals.specs.Words.{word}
-use Rattle.reader.specs.Reader.{Got, got, fault, isDue, due}
+use Rattle.reader.specs.Reader.{got, fault, isDue, due}
 
 pub due-word : (k f limit v : ℕ) (r : List ℕ) → v < limit → due k f limit (word k f v ∷ r) ≡ got v r
 unfolding due isDue word

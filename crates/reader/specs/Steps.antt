@@ -1,12 +1,12 @@
 -- What the steps answer: a place reached in the list, or the number of the faulty word.
-use Prim.Native.Nat.{ℕ, _+_, _-_, _<_, _≤_}
+use Prim.Native.Nat.{ℕ, _-_, _<_}
 use mathlib.Core.Path.{_≡_}
-use mathlib.Core.Bool.{Bool, cond}
+use mathlib.Core.Bool.{cond}
 use mathlib.Core.List.{List}
 use lib.Dec.{eqb, ltb}
-use lib.ListN.{length, getD, take, drop}
+use lib.ListN.{length, getD, drop}
 use Rattle.literals.specs.Words.{word}
-use Rattle.reader.specs.Reader.{Got, got, fault, after, ret, isDue, due}
+use Rattle.reader.specs.Reader.{Got, got, fault, isDue, due}
 use Rattle.reader.specs.declared.Place.{Place}
 use Rattle.reader.specs.declared.Taken.{Taken}
 use Rattle.reader.specs.declared.Step.{Step}

@@ -28,7 +28,7 @@ use Rattle.read_colors.specs.Held.{inEight, heldIn, Sound as HeldSound}
 use Rattle.read_colors.specs.declared.Held.{Held}
 use Rattle.read_colors.proofs.Inserted.{colorsIn, length-held, length-eight}
 use Rattle.read_map.specs.Map.{Lines, readLines}
-use Rattle.reading.specs.Reading.{readOrient, noLines, readPalette, Outcome, back, limits, answer}
+use Rattle.reading.specs.Reading.{readOrient, noLines, readPalette, back, limits, answer}
 use Rattle.reading.specs.Steps.{Headed}
 use Rattle.reading.specs.declared.Head.{Head}
 use Rattle.reading.proofs.Answers.{Sizes, sizes}
@@ -83,7 +83,8 @@ module _ (w h bd : ℕ) (cache ws : List ℕ) (r : Held) (e : readColors bd cach
       eight = s .eight;
       long = length-eight r 8 s (omega arith);
       reads = lines-from ∙ told-next q t ws (ending w h (colorsIn r)) h′
-          ∙ ap (λ (n : ℕ). after (linesIn n w h t (drop (q .at) ws)) (λ s. ret (record { colors = colorsIn r; transposed = t; flags = s .flags; map = s .map })))
+          ∙ ap (λ (n : ℕ). after (linesIn n w h t (drop (q .at) ws))
+          (λ s. ret (record { colors = colorsIn r; transposed = t; flags = s .flags; map = s .map })))
           (length-held r 8 s (omega arith));
     }
 
@@ -101,7 +102,8 @@ module _ (b : Head) (cache ws : List ℕ) (cells lines : ℕ) (x : Headed b cach
   made map flags = paletteOf (b .colors) (b .n) (b .transposed) map flags
 
   module _ (s : Scan) (map₀ flags₀ map flags : List ℕ) (place : Place) (is : s ≡ scanOf (b .width) (b .height) (b .transposed))
-      (cells-zero : map₀ ≡ replicate (b .width * b .height) 0) (lines-zero : flags₀ ≡ replicate (scanOf (b .width) (b .height) (b .transposed) .lines) 0)
+      (cells-zero : map₀ ≡ replicate (b .width * b .height) 0)
+      (lines-zero : flags₀ ≡ replicate (scanOf (b .width) (b .height) (b .transposed) .lines) 0)
       (e : readLines (b .n) s (record { flags = flags₀; map = map₀ }) (drop (b .at) ws) ≡ told place (record { flags = flags; map = map }) ws) where
     pub palette-told : readPalette (b .width) (b .height) (b .bd) cache ws ≡ told place (made map flags) ws
     palette-told =
@@ -119,7 +121,14 @@ module _ (b : Head) (cache ws : List ℕ) (cells lines : ℕ) (x : Headed b cach
       ap length first-are ∙ length-take-le (b .n) (b .colors) (omega (arith, x .long, x .most)) in
       let eight : b .colors ≡ inEight (firstColors (b .colors) (b .n)) = x .eight ∙ ap (λ (l : List ℕ). inEight l) (sym first-are) in
       ap (λ (k : ℕ). record { number = 0; n = k; colors = b .colors; transposed = b .transposed; bits = ofBits binary32 0 }) (sym count)
-      ∙ ap (λ (l : List ℕ). record { number = 0; n = length (firstColors (b .colors) (b .n)); colors = l; transposed = b .transposed; bits = ofBits binary32 0 }) eight
+      ∙ ap (λ (l : List ℕ). record {
+        number = 0;
+        n = length (firstColors (b .colors)
+            (b .n));
+        colors = l;
+        transposed = b .transposed;
+        bits = ofBits binary32 0;
+      }) eight
 
   -- ---- what the code asks
 
@@ -131,7 +140,14 @@ module _ (b : Head) (cache ws : List ℕ) (cells lines : ℕ) (x : Headed b cach
       → (Sound s (length map₀) × (length flags₀ ≡ s .lines)) × ((2 ≤ b .n) × (b .n ≤ 8) × Below map₀ (b .n))
   lines-ready s map₀ flags₀ is e f =
       let sound = scan-sound (b .width) (b .height) (b .transposed) (z .wide) (z .wideMost) (z .high) (z .highMost) in
-      rw (is, e, f, length-replicate {A = ℕ} (b .width * b .height) 0, length-replicate {A = ℕ} (scanOf (b .width) (b .height) (b .transposed) .lines) 0)
+      rw (
+        is,
+        e,
+        f,
+        length-replicate {A = ℕ} (b .width * b .height) 0,
+        length-replicate {A = ℕ}
+            (scanOf (b .width) (b .height) (b .transposed) .lines) 0,
+      )
       ((sound, refl), (x .two, x .most, λ i. zeros-below (b .width * b .height) (b .n) i (omega (arith, x .two))))
 
   pub cells-room : (map₀ : List ℕ) → map₀ ≡ replicate (b .width * b .height) 0 → length map₀ ≤ cells

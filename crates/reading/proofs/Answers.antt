@@ -4,7 +4,7 @@ use mathlib.Core.Bool.{Bool, true, false, cond}
 use mathlib.Core.List.{List}
 use Prim.Native.Nat.{ℕ, _*_, _<_, _≤_, max}
 use native.Mathlib.Omega.{arith}
-use lib.Dec.{eqb, leb}
+use lib.Dec.{leb}
 use lib.ListN.{length, take, drop-of-length-le}
 use lib.Seq.{drop-cons, take-all}
 use borrow.Author.Tests.{eq-eqb, ne-eqb, leb-true}
@@ -37,7 +37,8 @@ module _ (w h bd : ℕ) (cache : List ℕ) (cells lines : ℕ) (ws : List ℕ) w
   unfolding reading
   limited k e h = rw (← e, ne-eqb k 0 h) refl
 
-  module _ (passed : limits w h bd (length cache) cells lines ≡ 0) (p : rules.Palette) (place : Place) (e : readPalette w h bd cache ws ≡ told place p ws) where
+  module _ (passed : limits w h bd (length cache) cells lines ≡ 0) (p : rules.Palette) (place : Place)
+      (e : readPalette w h bd cache ws ≡ told place p ws) where
     judged : reading w h bd cache cells lines ws ≡ judge w h bd cache ws (told place p ws)
     unfolding reading
     judged = rw (passed, e) refl

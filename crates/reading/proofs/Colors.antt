@@ -1,26 +1,25 @@
 -- The colours' words are read back as the colours. Assumes nothing.
-use mathlib.Core.Path.{_≡_, refl, sym, ap, _∙_}
-use mathlib.Core.Bool.{Bool, true, false, cond, _&&_, _||_}
+use mathlib.Core.Path.{_≡_, refl, ap, _∙_}
+use mathlib.Core.Bool.{Bool, true, false, cond}
 use mathlib.Core.List.{List, [], _∷_, _++_, append-assoc}
-use Prim.Native.Nat.{ℕ, zero, suc, _+_, _*_, _-_, _^_, _≤_, _<_, min, max}
+use Prim.Native.Nat.{ℕ, _+_, _-_, _^_, _≤_, _<_, min}
 use native.Mathlib.Nat.{le-trans, le-of-lt, min-eq-left, min-eq-right, le-max-left, le-max-right, max-le}
 use native.Mathlib.Omega.{arith}
-use lib.Dec.{eqb, ltb, leb}
-use lib.ListN.{length, getD}
+use lib.Dec.{leb}
+use lib.ListN.{length}
 use lib.Pow.{pow-mono, pow-pos}
 use borrow.Author.Tests.{leb-true, leb-false, le-leb, lt-leb}
 use Rattle.lists.specs.Counted.{elem, bit}
 use Rattle.lists.proofs.Ascending.{ascending-at}
 use Rattle.counts.specs.Counts.{ceilLog2}
 use Rattle.counts.proofs.Log.{ceil-reaches}
-use Rattle.literals.specs.Words.{word}
 use Rattle.literals.specs.Literals.{levelsOk, largestStep, stepBits, cutBits, stepWords, moreWords, literalWords}
 use Rattle.literals.proofs.Levels.{levels-ascend, level-at, levels-tail}
 use Rattle.literals.proofs.Widths.{step-bits-least, step-bits-most}
 use Rattle.emit.specs.Colors.{remove, cacheWords, untaken, colorWords}
 use Rattle.emit.proofs.Remove.{length-remove}
 use Rattle.emit.proofs.Untaken.{untaken-none, levels-untaken}
-use Rattle.reader.specs.Reader.{Got, got, after, due}
+use Rattle.reader.specs.Reader.{got, after}
 use Rattle.read_colors.specs.Colors.{insert, readBit, readCache, readSteps, readMore, readLiterals, readSized, readColors}
 use Rattle.reader.proofs.Words.{due-word, bit-below, bit-eqb}
 use Rattle.read_colors.proofs.Inserted.{length-insert}

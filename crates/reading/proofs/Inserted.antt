@@ -1,14 +1,13 @@
 -- Colours put among ascending ones: in any order they give the same, and ascending ones give themselves. Assumes nothing.
-use mathlib.Core.Path.{_≡_, refl, sym, ap, _∙_}
+use mathlib.Core.Path.{_≡_, refl, ap, _∙_}
 use mathlib.Core.Bool.{Bool, true, false, cond, _||_}
 use mathlib.Core.List.{List, [], _∷_, _++_, append-assoc}
-use Prim.Native.Nat.{ℕ, zero, suc, _+_, _<_, _≤_, min, max}
+use Prim.Native.Nat.{ℕ, _+_, _<_, _≤_, min, max}
 use native.Mathlib.Omega.{arith}
 use lib.Dec.{eqb, leb}
-use lib.ListN.{length}
 use borrow.Author.Tests.{eqb-true, leb-true, leb-false}
 use Rattle.lists.specs.Counted.{elem, ascending}
-use Rattle.lists.proofs.Ascending.{Above, Ascending, ascending-is}
+use Rattle.lists.proofs.Ascending.{Above, ascending-is}
 use Rattle.emit.specs.Colors.{remove}
 use Rattle.read_colors.specs.Colors.{insert}
 

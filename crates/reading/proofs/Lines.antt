@@ -1,12 +1,12 @@
 -- The lines' words are read back as the flags and the map. Assumes nothing.
-use mathlib.Core.Path.{_≡_, refl, sym, ap, _∙_}
+use mathlib.Core.Path.{_≡_, refl, sym, _∙_}
 use mathlib.Core.Bool.{Bool, true, false, cond, false≢true}
 use mathlib.Core.List.{List, [], _∷_}
 use Prim.Native.Nat.{ℕ, zero, suc, _+_, _*_, _-_, _≤_, _<_}
 use native.Mathlib.Nat.{add-comm}
 use native.Mathlib.Omega.{arith}
 use lib.Dec.{eqb}
-use lib.ListN.{length, getD, set, replicate, length-set, length-replicate}
+use lib.ListN.{length, getD, set, length-set, length-replicate}
 use lib.Seq.{getD-set-same, getD-set-other}
 use borrow.Author.Tests.{eqb-true, ne-eqb}
 use Rattle.lists.specs.Counted.{upTo}
@@ -24,7 +24,7 @@ use Rattle.accept.proofs.Lines.{in-block}
 use Rattle.emit.specs.Map.{rankedWord, cellWord, lineWord, rowContext, sentCells, lineWords}
 use Rattle.listing.proofs.Cells.{around-agree}
 use Rattle.listing.proofs.Lines.{Fits, Row, Seen, agree, one-more}
-use Rattle.reader.specs.Reader.{Reader, _>>=_, ret, due, readUpTo}
+use Rattle.reader.specs.Reader.{_>>=_, ret, due}
 use Rattle.reader.proofs.Takes.{Takes, done, one, then, last, loop}
 use Rattle.read_map.specs.Map.{readRanked, readIndex, readCell, readCells, Lines, readLine, readLines}
 use Rattle.reading.specs.Reading.{noLines}

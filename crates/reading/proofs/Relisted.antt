@@ -68,7 +68,8 @@ module _ (aside ws : List ℕ) (count i : ℕ) (fits : count ≤ length aside) (
 
 -- ---- the list made again
 
-module _ (w h bd : ℕ) (cache : List ℕ) (p : Palette) (before after′ : List ℕ) (r : Listed) (l : Lists w h bd cache p before after′ r) (room : 4234 ≤ length before) (ws : List ℕ) where
+module _ (w h bd : ℕ) (cache : List ℕ) (p : Palette) (before after′ : List ℕ) (r : Listed) (l : Lists w h bd cache p before after′ r)
+    (room : 4234 ≤ length before) (ws : List ℕ) where
   abbrev no : ℕ
   no = refusal w h bd (length cache) p
 
@@ -95,5 +96,6 @@ module _ (w h bd : ℕ) (cache : List ℕ) (p : Palette) (before after′ : List
       let list = callList w h bd cache p in
       let c : r .count ≡ length list = l .count ∙ rw z refl in
       let a : after′ ≡ list ++ drop (length list) before = l .words ∙ rw z refl in
-      let t : take (r .count) after′ ≡ list = ap (λ (x : List ℕ). take (r .count) x) a ∙ take-at list (drop (length list) before) (r .count) (sym c) in
+      let t : take (r .count) after′ ≡ list = ap (λ (x : List ℕ). take (r .count) x) a ∙ take-at list (drop (length list) before) (r .count)
+      (sym c) in
       e ∙ ap (λ (x : List ℕ). sameList x ws) t ∙ rw (eq-eqb no 0 (zero-number z)) refl

@@ -1,23 +1,21 @@
 -- Listing and reading undo each other. Assumes nothing.
 use mathlib.Core.Path.{_≡_, refl, sym, ap, subst, _∙_}
-use mathlib.Core.Logic.{_↔_}
-use mathlib.Core.Bool.{Bool, true, false, cond, not, _&&_, _||_, false≢true}
+use mathlib.Core.Bool.{Bool, true, false, cond, not, _||_}
 use mathlib.Core.List.{List, [], _∷_, _++_, append-nil}
-use Prim.Native.Nat.{ℕ, zero, suc, _*_, _≤_, _<_, max}
+use Prim.Native.Nat.{ℕ, _*_, max}
 use native.Mathlib.Omega.{arith}
-use lib.Dec.{eqb, leb}
+use lib.Dec.{eqb}
 use lib.ListN.{length}
 use lib.Seq.{ext-getD}
-use borrow.Author.Tests.{eqb-true, eq-eqb, le-leb}
+use borrow.Author.Tests.{eqb-true, le-leb}
 use Rattle.lists.specs.Counted.{bit}
-use Rattle.lists.proofs.Choice.{either-way, and-l, and-r}
+use Rattle.lists.proofs.Choice.{and-l, and-r}
 use Rattle.counts.specs.Counts.{orientSent}
-use Rattle.context.specs.Map.{linesOf, lengthOf}
 use Rattle.scan.proofs.Scans.{scan-sound, lines-are}
 use Rattle.literals.specs.Words.{bypass}
 use Rattle.accept.specs.Palette.{Palette}
 use Rattle.accept.specs.Accepted.{orientOk, refusal, Accepted}
-use Rattle.accept.proofs.Accepted.{Facts, facts, accepted-of-zero, zero-of-accepted}
+use Rattle.accept.proofs.Accepted.{facts, accepted-of-zero, zero-of-accepted}
 use Rattle.emit.specs.Colors.{colorWords}
 use Rattle.emit.specs.Map.{orientWords, mapWords}
 use Rattle.listing.specs.Listing.{callList}
@@ -124,7 +122,17 @@ unfolding reading limits judge relists
 read-of-list w h bd cache p cells lines g k a =
     let list = callList w h bd cache p in
     let e : readPalette w h bd cache list ≡ got p [] = rw (← append-nil list) (read-back w h bd cache p [] a) in
-    rw (a .sides, a .depth, a .cacheLength, le-leb (w * h) cells g, le-leb (max w h) lines k, e, zero-of-accepted w h bd cache p a, same-refl list) refl
+    rw (
+      a .sides,
+      a .depth,
+      a .cacheLength,
+      le-leb (w * h) cells g,
+      le-leb
+          (max w h) lines k,
+      e,
+      zero-of-accepted w h bd cache p a,
+      same-refl list,
+    ) refl
 
 pub exactly-same : ReadExactlySame
 exactly-same w h bd cache p q cells lines ws vs r s =

@@ -1,9 +1,8 @@
 -- The smallest lists of each number, for a 1 by 1 block of depth 8 with the cache 20, and where the readings of L2 differ. One claim.
 use Prim.Native.Nat.{ℕ}
 use mathlib.Core.Path.{_≡_, refl}
-use mathlib.Core.Bool.{Bool, true, false}
+use mathlib.Core.Bool.{false}
 use mathlib.Core.List.{List, [], _∷_, map}
-use lib.ListN.{replicate}
 use Rattle.lists.specs.Counted.{upTo, allBelow, allIn, elem, above, ascending}
 use Rattle.counts.specs.Counts.{leastBits, ceilLog2}
 use Rattle.context.specs.Map.{cell, lineCell}
@@ -11,7 +10,6 @@ use Rattle.context.specs.Order.{choose, byThree, around, others, orderOf, place
 use Rattle.scan.specs.Scan.{fill}
 use Rattle.literals.specs.Words.{word, bypass}
 use Rattle.literals.specs.Literals.{levelsOk, largestStep, stepBits, cutBits, stepWords, moreWords, literalWords}
-use Rattle.accept.specs.Palette.{Palette}
 use Rattle.accept.specs.Accepted.{sidesOk, depthOk, colorsOk, orientOk, cacheOk, countsOk, lineOk, mapOk, refusal}
 use Rattle.emit.specs.Colors.{remove, cacheWords, untaken, colorWords}
 use Rattle.emit.specs.Map.{rankedWord, cellWord, rowContext, sentCells, lineWords, orientWords, mapWords}

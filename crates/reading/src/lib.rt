@@ -121,7 +121,8 @@ fn read_map(
     requires { ⌜ Headed b (now cache) (now words) (length (now map)) (length (now flags)) ⌝ }
     requires { ⌜ (now cells ≡ replicate (b .width * b .height) 0) × (now marks ≡ replicate (scanOf (b .width) (b .height) (b .transposed) .lines) 0)
         × (4234 ≤ length (now aside)) ⌝ }
-    ensures { λ r. ⌜ Reads (reading (b .width) (b .height) (b .bd) (now (cache .entry)) (length (now (map .entry))) (length (now (flags .entry))) (now (words .entry)))
+    ensures { λ r. ⌜ Reads
+        (reading (b .width) (b .height) (b .bd) (now (cache .entry)) (length (now (map .entry))) (length (now (flags .entry))) (now (words .entry)))
         (now (map .entry)) (now (map .exit)) (now (flags .entry)) (now (flags .exit)) r ⌝ }
 {
     let s = scan::scan_of(b.width, b.height, b.transposed);
@@ -150,7 +151,8 @@ fn read_map(
 // As `read`, behind colours and orientation: with room aside for cells, flags and the list.
 fn read_aside(b: Head, cache: &[u16], words: &[u32], map: &mut [u8], flags: &mut [u8]) -> Palette
     requires { ⌜ Headed b (now cache) (now words) (length (now map)) (length (now flags)) ⌝ }
-    ensures { λ r. ⌜ Reads (reading (b .width) (b .height) (b .bd) (now (cache .entry)) (length (now (map .entry))) (length (now (flags .entry))) (now (words .entry)))
+    ensures { λ r. ⌜ Reads
+        (reading (b .width) (b .height) (b .bd) (now (cache .entry)) (length (now (map .entry))) (length (now (flags .entry))) (now (words .entry)))
         (now (map .entry)) (now (map .exit)) (now (flags .entry)) (now (flags .exit)) r ⌝ }
 {
     let mut cells = [0u8; 4096];
@@ -180,7 +182,8 @@ pub fn read(
     map: &mut [u8],
     flags: &mut [u8],
 ) -> Palette
-    ensures { λ r. ⌜ Reads (reading width height bd (now (cache .entry)) (length (now (map .entry))) (length (now (flags .entry))) (now (words .entry)))
+    ensures { λ r. ⌜ Reads
+        (reading width height bd (now (cache .entry)) (length (now (map .entry))) (length (now (flags .entry))) (now (words .entry)))
         (now (map .entry)) (now (map .exit)) (now (flags .entry)) (now (flags .exit)) r ⌝ }
 {
     let number = limits(width, height, bd, cache.len(), map.len(), flags.len());

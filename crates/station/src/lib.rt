@@ -168,7 +168,8 @@ pub extern "C" fn palette_read(
     flags: &mut [u8],
     read: &mut [u32; 10],
 ) -> u32
-    ensures { λ r. ⌜ ReadsTo (reading width height bd (now (cache .entry)) (length (now (map .entry))) (length (now (flags .entry))) (now (words .entry)))
+    ensures { λ r. ⌜ ReadsTo
+        (reading width height bd (now (cache .entry)) (length (now (map .entry))) (length (now (flags .entry))) (now (words .entry)))
         (now (map .entry)) (now (map .exit)) (now (flags .entry)) (now (flags .exit)) (now (read .exit)) r ⌝ }
 {
     let answer = palette::read(width, height, bd, cache, words, map, flags);

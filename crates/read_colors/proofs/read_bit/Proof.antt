@@ -17,7 +17,8 @@ returns c =
     let e = c .add .ensures in
     let s = c .before .before .before .before .before .before in
     let k = c .before .before .before .take .ensures in (
-      bit-one _ (s .args .entry .0) _ (colorsIn (s .args .held)) _ k (c .add .result) (c .before .if1 .taken) (e .1) (added (s .args .held) (c .add .result) 7 _ (s .pre) (omega arith) (e .0) (e .2)),
+      bit-one _ (s .args .entry .0) _ (colorsIn (s .args .held)) _ k (c .add .result) (c .before .if1 .taken) (e .1)
+          (added (s .args .held) (c .add .result) 7 _ (s .pre) (omega arith) (e .0) (e .2)),
       sound-added (s .args .held) (c .add .result) 7 _ (s .pre) (omega arith) (e .0) (e .2) _ (omega arith),
     )
 

@@ -18,7 +18,9 @@ loop-holds : tie.Need-loop-holds Inv-loop μ-loop
 loop-holds c = record { seen = search needs; sure = refl; sound = sound-none _ _; reads = refl }
 
 returns : tie.Need-returns Inv-loop μ-loop
-returns c = let l = c .before .before .before .loop in (cache-stop _ _ _ _ _ (l .i) (l .inv) (c .before .before .before .before .before .before .pre) (c .if1 .taken), l .inv .sound)
+returns c =
+    let l = c .before .before .before .loop in
+    (cache-stop _ _ _ _ _ (l .i) (l .inv) (c .before .before .before .before .before .before .pre) (c .if1 .taken), l .inv .sound)
 
 mul-t10 : tie.Need-mul-t10 Inv-loop μ-loop
 mul-t10 c = search needs
@@ -33,10 +35,13 @@ read-bit-requires c κs =
 
 returns-2 : tie.Need-returns-2 Inv-loop μ-loop
 returns-2 c =
+    let far = c .before .before .before .before .before .before .before .before .before .before in
     let l = c .before .before .before .before .before .before .before .before .loop in
     let b = c .before .before .before .read-bit .ensures in
     let some = c .before .before .before .before .before .if1 .left in (
-      cache-fault _ _ _ _ _ (l .i) (l .inv) (c .before .before .before .before .before .before .before .before .before .before .before .pre) (c .before .before .before .before .before .before .before .loop-test .taken) some (c .before .before .before .read-bit .result) (b .1) (b .0) (c .if2 .taken),
+      cache-fault _ _ _ _ _ (l .i) (l .inv) (far .before .pre)
+          (c .before .before .before .before .before .before .before .loop-test .taken) some (c .before .before .before .read-bit .result) (b .1) (b .0)
+          (c .if2 .taken),
       record { few = omega (arith, b .1 .few); eight = b .1 .eight },
     )
 
@@ -48,12 +53,17 @@ loop-less c = search needs
 
 loop-again : tie.Need-loop-again Inv-loop μ-loop
 loop-again c =
+    let far = c .before .before .before .before .before .before .before .before .before .before in
     let l = c .before .before .before .before .before .before .before .before .loop in
     let b = c .before .before .before .read-bit .ensures in
-    cache-turn _ _ _ _ _ (l .i) (l .inv) (c .before .before .before .before .before .before .before .before .before .before .before .pre) (c .before .before .before .before .before .before .before .loop-test .taken) (c .before .before .before .before .before .if1 .left) (c .before .before .before .read-bit .result) (b .1) (b .0) (c .if2 .left)
+    cache-turn _ _ _ _ _ (l .i) (l .inv) (far .before .pre)
+    (c .before .before .before .before .before .before .before .loop-test .taken) (c .before .before .before .before .before .if1 .left)
+    (c .before .before .before .read-bit .result) (b .1) (b .0) (c .if2 .left)
 
 returns-3 : tie.Need-returns-3 Inv-loop μ-loop
-returns-3 c = let l = c .before .loop in (cache-past _ _ _ _ _ (l .i) (l .inv) (c .before .before .before .before .pre) (c .loop-test .left), l .inv .sound)
+returns-3 c =
+    let l = c .before .loop in
+    (cache-past _ _ _ _ _ (l .i) (l .inv) (c .before .before .before .before .pre) (c .loop-test .left), l .inv .sound)
 
 pub read-cache-spec : {M : Type 1} → statement M
 read-cache-spec =

@@ -31,8 +31,12 @@ moved-requires c κs = search needs
 returns-2 : tie.Need-returns-2
 returns-2 c = let s = c .before .before .before .before .before .before .before .before .before in let a = s .args in let m = c .moved .ensures in
     let k = rw (shifted (a .bd) (omega (arith, s .pre .2))) at (c .before .before .before .before .take .ensures) in (
-      literals-fault (a .words .now) (a .bd) (a .n) (a .held) (c .before .before .before .before .before .before .if1 .left) _ k (c .moved .result) (m .1) (c .before .if2 .taken),
-      (sound-moved (a .held) (c .moved .result) _ _ (s .pre .4) (m .0) (m .2) (s .pre .4 .few), λ h. absurd (c .before .if2 .taken (ap (λ (x : Place). x .fault) (sym (m .1)) ∙ h))),
+      literals-fault (a .words .now) (a .bd) (a .n) (a .held) (c .before .before .before .before .before .before .if1 .left) _ k (c .moved .result)
+          (m .1) (c .before .if2 .taken),
+      (
+        sound-moved (a .held) (c .moved .result) _ _ (s .pre .4) (m .0) (m .2) (s .pre .4 .few),
+        λ h. absurd (c .before .if2 .taken (ap (λ (x : Place). x .fault) (sym (m .1)) ∙ h)),
+      ),
     )
 
 cast-t13 : tie.Need-cast-t13
@@ -52,15 +56,22 @@ read-more-requires c κs = let s = c .before .before .before .before .before .be
       s .pre .2,
       omega (arith, k .sure (c .before .before .if2 .left)),
       ap (λ (x : Place). x .fault) (d .1) ∙ c .before .before .if2 .left,
-      sound-added (a .held) (c .add .result) _ _ (s .pre .4) (s .pre .0) (d .0) (d .2) _ (omega (arith, c .before .before .before .before .before .before .before .if1 .left)),
+      sound-added (a .held) (c .add .result) _ _ (s .pre .4) (s .pre .0) (d .0) (d .2) _
+          (omega (arith, c .before .before .before .before .before .before .before .if1 .left)),
     )
 
 returns-3 : tie.Need-returns-3
-returns-3 c = let s = c .before .before .before .before .before .before .before .before .before .before .before in let a = s .args in
+returns-3 c =
+    let far = c .before .before .before .before .before .before .before .before .before .before in
+    let s = far .before in let a = s .args in
     let k = rw (shifted (a .bd) (omega (arith, s .pre .2))) at (c .before .before .before .before .before .before .take .ensures) in
     let d = c .before .add .ensures in
-    let e = c .read-more .ensures in
-    (literals-next (a .words .now) (a .bd) (a .n) (a .held) (c .before .before .before .before .before .before .before .before .if1 .left) _ k (c .before .add .result) (d .1) (c .before .before .before .if2 .left) (d .0) (added (a .held) (c .before .add .result) _ _ (s .pre .4) (s .pre .0) (d .0) (d .2)) ∙ e .0, e .1)
+    let e = c .read-more .ensures in (
+      literals-next (a .words .now) (a .bd) (a .n) (a .held) (c .before .before .before .before .before .before .before .before .if1 .left) _ k
+          (c .before .add .result) (d .1) (c .before .before .before .if2 .left) (d .0)
+          (added (a .held) (c .before .add .result) _ _ (s .pre .4) (s .pre .0) (d .0) (d .2)) ∙ e .0,
+      e .1,
+    )
 
 pub read-literals-spec : {M : Type 1} → statement M
 read-literals-spec =

@@ -21,8 +21,12 @@ moved-requires c κs = search needs
 
 returns-2 : tie.Need-returns-2
 returns-2 c = let s = c .before .before .before .before .before .before .before .before .before in let a = s .args in let m = c .moved .ensures in (
-  more-fault (a .words .now) (a .bd) (a .from .0) (a .n) (a .held) (c .before .before .before .before .before .before .if1 .left) _ (c .before .before .before .before .take .ensures) (c .moved .result) (m .1) (c .before .if2 .taken),
-  (sound-moved (a .held) (c .moved .result) _ _ (s .pre .5) (m .0) (m .2) (s .pre .5 .few), λ h. absurd (c .before .if2 .taken (ap (λ (x : Place). x .fault) (sym (m .1)) ∙ h))),
+  more-fault (a .words .now) (a .bd) (a .from .0) (a .n) (a .held) (c .before .before .before .before .before .before .if1 .left) _
+      (c .before .before .before .before .take .ensures) (c .moved .result) (m .1) (c .before .if2 .taken),
+  (
+    sound-moved (a .held) (c .moved .result) _ _ (s .pre .5) (m .0) (m .2) (s .pre .5 .few),
+    λ h. absurd (c .before .if2 .taken (ap (λ (x : Place). x .fault) (sym (m .1)) ∙ h)),
+  ),
 )
 
 moved-requires-2 : tie.Need-moved-requires-2
@@ -32,18 +36,39 @@ sub-read-steps : tie.Need-sub-read-steps
 sub-read-steps c = search needs
 
 add-read-steps : tie.Need-add-read-steps
-add-read-steps c = omega (arith, c .before .before .before .before .before .take .ensures .below (omega arith), c .before .before .before .before .before .before .before .before .before .before .pre .2)
+add-read-steps c = omega (
+  arith,
+  c .before .before .before .before .before .take .ensures .below
+      (omega arith),
+  c .before .before .before .before .before .before .before .before .before .before .pre .2,
+)
 
 read-steps-requires : tie.Need-read-steps-requires
 read-steps-requires c κs =
     let s = c .before .before .before .before .before .before .before .before .before .before in
     let m = c .before .moved2 .ensures in
-    let b = c .before .before .before .before .before .take .ensures .below (omega arith) in
-    (s .pre .0, s .pre .2, omega (arith, b, s .pre .2), s .pre .3, ap (λ (x : Place). x .fault) (m .1) ∙ c .before .before .if2 .left, sound-moved (s .args .held) (c .before .moved2 .result) _ _ (s .pre .5) (m .0) (m .2) (s .pre .5 .few))
+    let b = c .before .before .before .before .before .take .ensures .below (omega arith) in (
+      s .pre .0,
+      s .pre .2,
+      omega (arith, b, s .pre .2),
+      s .pre .3,
+      ap (λ (x : Place). x .fault) (m .1) ∙ c .before .before .if2 .left,
+      sound-moved
+          (s .args .held) (c .before .moved2 .result) _ _ (s .pre .5) (m .0) (m .2) (s .pre .5 .few),
+    )
 
 returns-3 : tie.Need-returns-3
-returns-3 c = let s = c .before .before .before .before .before .before .before .before .before .before .before in let a = s .args in let m = c .before .before .moved2 .ensures in let e = c .read-steps .ensures in
-    (more-next (a .words .now) (a .bd) (a .from .0) (a .n) (a .held) (c .before .before .before .before .before .before .before .before .if1 .left) _ (c .before .before .before .before .before .before .take .ensures) (c .before .before .moved2 .result) (m .1) (c .before .before .before .if2 .left) (m .0) (m .2) ∙ e .0, e .1)
+returns-3 c =
+    let far = c .before .before .before .before .before .before .before .before .before .before in
+    let s = far .before in
+    let a = s .args in
+    let m = c .before .before .moved2 .ensures in
+    let e = c .read-steps .ensures in (
+      more-next (a .words .now) (a .bd) (a .from .0) (a .n) (a .held) (c .before .before .before .before .before .before .before .before .if1 .left) _
+          (c .before .before .before .before .before .before .take .ensures) (c .before .before .moved2 .result) (m .1)
+          (c .before .before .before .if2 .left) (m .0) (m .2) ∙ e .0,
+      e .1,
+    )
 
 pub read-more-spec : {M : Type 1} → statement M
 read-more-spec =

@@ -1,5 +1,5 @@
 use native.Mathlib.Omega.{arith}
-use lib.Pow.{pow-pos, pow-lt}
+use lib.Pow.{pow-lt}
 use Rattle.counts.proofs.Log.{shifted}
 use borrow.Author.Needs.{needs}
 use Rattle.read_colors.proofs.step_limit.Statement.{statement}

@@ -1,9 +1,7 @@
-use mathlib.Core.Path.{_≡_}
 use Prim.Native.Nat.{_-_, _<_}
 use native.Mathlib.Omega.{arith}
 use lib.ListN.{length, length-set}
-use borrow.Author.Needs.{needs}
-use Rattle.scan.specs.Scan.{placeAt, Sound}
+use Rattle.scan.specs.Scan.{placeAt}
 use Rattle.scan.proofs.Fill.{below-set}
 use Rattle.read_map.proofs.Ranked.{cell-read}
 use Rattle.read_map.proofs.Lines.{CellsInv, cells-start, cells-fault, cells-turn, cells-end}
@@ -17,7 +15,8 @@ abbrev μ-loop : tie.MeasureT-loop
 μ-loop words at map₀ s n l place₀ a₀ map place a = s .len - a
 
 -- the cell at hand stands in the map
-inside : (c : tie.Then1 Inv-loop μ-loop) → let a = c .before .before .before .before .before .args in placeAt (a .s) (a .l) (c .before .before .loop .a) < length (a .map .now)
+inside : (c : tie.Then1 Inv-loop μ-loop) → let a = c .before .before .before .before .before .args in placeAt (a .s) (a .l)
+    (c .before .before .loop .a) < length (a .map .now)
 inside c = let p = c .before .before .before .before .before .pre .0 in p .0 .inside _ _ (p .1) (c .if1 .taken)
 
 loop-holds : tie.Need-loop-holds Inv-loop μ-loop
@@ -33,21 +32,42 @@ read-index-requires c κs =
     ((rw (v .size) (s .pre .0 .0), s .pre .0 .1, c .before .if1 .taken), (s .pre .1 .0, s .pre .1 .1, v .below))
 
 place-requires : tie.Need-place-requires Inv-loop μ-loop
-place-requires c κs = omega (arith, inside (c .before .before .before), c .before .before .before .before .before .before .before .before .pre .0 .0 .small)
+place-requires c κs = omega (
+  arith,
+  inside
+      (c .before .before .before),
+  c .before .before .before .before .before .before .before .before .pre .0 .0 .small,
+)
 
 slice-write-map : tie.Need-slice-write-map Inv-loop μ-loop
-slice-write-map c = omega (arith, c .place .ensures, inside (c .before .before .before .before), c .before .before .before .before .before .before .loop .inv .size)
+slice-write-map c = omega (
+  arith,
+  c .place .ensures,
+  inside
+      (c .before .before .before .before),
+  c .before .before .before .before .before .before .loop .inv .size,
+)
 
 same-length : tie.Need-same-length Inv-loop μ-loop
-same-length c = let l = c .before .before .before .before .before .before .before .before .before .loop in omega (arith, length-set (l .map) (c .before .before .before .place .result) (c .before .before .before .before .before .read-index .result .index .0), l .inv .size)
+same-length c =
+    let l = c .before .before .before .before .before .before .before .before .before .loop in
+    omega (
+      arith,
+      length-set (l .map) (c .before .before .before .place .result)
+          (c .before .before .before .before .before .read-index .result .index .0),
+      l .inv .size,
+    )
 
 returns : tie.Need-returns Inv-loop μ-loop
 returns c =
-    let a = c .before .before .before .before .before .before .before .before .before .before .before .before .args in
+    let far = c .before .before .before .before .before .before .before .before .before .before in
+    let a = far .before .before .args in
     let l = c .before .before .before .before .before .before .before .before .before .loop in
     let r = c .before .before .before .before .before .read-index in (
-      cells-fault (a .words .now) (a .at) (a .map .now) (a .n) (a .s) (a .l) (l .map) (l .place) (l .a) (l .inv) (c .before .before .before .before .before .before .before .if1 .taken) (r .result .place) _
-          (cell-read (a .words .now) (a .n) (a .s) (a .l) (l .a) (l .place .at) (l .map) (r .result .place) (r .result .index .0) _ (r .ensures .0) (c .before .before .before .place .ensures))
+      cells-fault (a .words .now) (a .at) (a .map .now) (a .n) (a .s) (a .l) (l .map) (l .place) (l .a) (l .inv)
+          (c .before .before .before .before .before .before .before .if1 .taken) (r .result .place) _
+          (cell-read (a .words .now) (a .n) (a .s) (a .l) (l .a) (l .place .at) (l .map) (r .result .place) (r .result .index .0) _ (r .ensures .0)
+          (c .before .before .before .place .ensures))
           (c .if2 .taken),
       below-set (l .map) (a .n) _ _ (l .inv .below) (r .ensures .1),
     )
@@ -60,11 +80,14 @@ loop-less c = omega (arith, c .before .before .before .before .before .before .b
 
 loop-again : tie.Need-loop-again Inv-loop μ-loop
 loop-again c =
-    let a = c .before .before .before .before .before .before .before .before .before .before .before .before .args in
+    let far = c .before .before .before .before .before .before .before .before .before .before in
+    let a = far .before .before .args in
     let l = c .before .before .before .before .before .before .before .before .before .loop in
     let r = c .before .before .before .before .before .read-index in
-    cells-turn (a .words .now) (a .at) (a .map .now) (a .n) (a .s) (a .l) (l .map) (l .place) (l .a) (l .inv) (c .before .before .before .before .before .before .before .if1 .taken) (r .result .place) _
-    (cell-read (a .words .now) (a .n) (a .s) (a .l) (l .a) (l .place .at) (l .map) (r .result .place) (r .result .index .0) _ (r .ensures .0) (c .before .before .before .place .ensures))
+    cells-turn (a .words .now) (a .at) (a .map .now) (a .n) (a .s) (a .l) (l .map) (l .place) (l .a) (l .inv)
+    (c .before .before .before .before .before .before .before .if1 .taken) (r .result .place) _
+    (cell-read (a .words .now) (a .n) (a .s) (a .l) (l .a) (l .place .at) (l .map) (r .result .place) (r .result .index .0) _ (r .ensures .0)
+    (c .before .before .before .place .ensures))
     (c .if2 .left) (length-set (l .map) _ _) (below-set (l .map) (a .n) _ _ (l .inv .below) (r .ensures .1))
 
 same-length-2 : tie.Need-same-length-2 Inv-loop μ-loop

@@ -27,60 +27,92 @@ same-length : tie.Need-same-length Inv-loop μ-loop
 same-length c = c .before .before .before .before .before .before .before .loop .inv .size
 
 same-length-2 : tie.Need-same-length-2 Inv-loop μ-loop
-same-length-2 c = omega (arith, c .before .before .before .before .before .before .before .loop .inv .count, c .before .before .before .before .before .before .before .before .before .before .before .pre .0 .1)
+same-length-2 c =
+    let far = c .before .before .before .before .before .before .before .before .before .before in
+    omega
+    (arith, c .before .before .before .before .before .before .before .loop .inv .count, far .before .pre .0 .1)
 
 returns : tie.Need-returns Inv-loop μ-loop
 returns c =
-    let a = c .before .before .before .before .before .before .before .before .before .before .before .args in
+    let far = c .before .before .before .before .before .before .before .before .before .before in
+    let a = far .before .args in
     let l = c .before .before .before .before .before .before .before .loop in
     lines-unflagged (a .words .now) (a .at) (a .map .now) (a .flags .now) (a .n) (a .s) (l .map) (l .flags) (l .place) (l .ctx) (l .l) (l .inv)
-    (c .before .before .before .before .before .if1 .taken) _ _ (c .before .before .before .before .flag-limit .ensures .0) (c .before .before .before .take .ensures) (c .if2 .taken) (record { flags = l .flags; map = l .map })
+    (c .before .before .before .before .before .if1 .taken) _ _ (c .before .before .before .before .flag-limit .ensures .0)
+    (c .before .before .before .take .ensures) (c .if2 .taken) (record { flags = l .flags; map = l .map })
 
 cast-flag : tie.Need-cast-flag Inv-loop μ-loop
-cast-flag c = let f = c .before .before .before .before .before .flag-limit .ensures in omega (arith, c .before .before .before .before .take .ensures .below (f .1), f .2)
+cast-flag c =
+    let f = c .before .before .before .before .before .flag-limit .ensures in
+    omega (arith, c .before .before .before .before .take .ensures .below (f .1), f .2)
 
 read-sent-requires : tie.Need-read-sent-requires Inv-loop μ-loop
 read-sent-requires c κs =
-    let s = c .before .before .before .before .before .before .before .before .before .before .before .before .before in
+    let far = c .before .before .before .before .before .before .before .before .before .before in
+    let s = far .before .before .before in
     let l = c .before .before .before .before .before .before .before .before .before .loop in
     let f = c .before .before .before .before .before .before .flag-limit .ensures in (
-      (rw (l .inv .size) (s .pre .0 .0), c .before .before .before .before .before .before .before .if1 .taken, flag-later (l .l) _ _ (f .0) (c .before .before .before .before .before .take .ensures .below (f .1))),
+      (
+        rw (l .inv .size) (s .pre .0 .0),
+        c .before .before .before .before .before .before .before .if1 .taken,
+        flag-later (l .l) _ _ (f .0)
+            (c .before .before .before .before .before .take .ensures .below (f .1)),
+      ),
       (s .pre .1 .0, s .pre .1 .1, l .inv .below),
     )
 
 same-length-3 : tie.Need-same-length-3 Inv-loop μ-loop
-same-length-3 c = omega (arith, c .before .before .before .before .read-sent .kept .1 .1 .0, c .before .before .before .before .before .before .before .before .before .before .before .before .before .before .loop .inv .size)
+same-length-3 c =
+    let far = c .before .before .before .before .before .before .before .before .before .before in
+    omega
+    (arith, c .before .before .before .before .read-sent .kept .1 .1 .0, far .before .before .before .before .loop .inv .size)
 
 same-length-4 : tie.Need-same-length-4 Inv-loop μ-loop
-same-length-4 c = omega (arith, c .before .before .before .before .before .before .before .before .before .before .before .before .before .before .loop .inv .count, c .before .before .before .before .before .before .before .before .before .before .before .before .before .before .before .before .before .before .pre .0 .1)
+same-length-4 c =
+    let far = c .before .before .before .before .before .before .before .before .before .before in
+    omega
+    (arith, far .before .before .before .before .loop .inv .count, far .before .before .before .before .before .before .before .before .pre .0 .1)
 
 returns-2 : tie.Need-returns-2 Inv-loop μ-loop
 returns-2 c =
-    let a = c .before .before .before .before .before .before .before .before .before .before .before .before .before .before .before .before .before .before .args in
-    let l = c .before .before .before .before .before .before .before .before .before .before .before .before .before .before .loop in
+    let far = c .before .before .before .before .before .before .before .before .before .before in
+    let a = far .before .before .before .before .before .before .before .before .args in
+    let l = far .before .before .before .before .loop in
     let r = c .before .before .before .before .read-sent in
     lines-fault (a .words .now) (a .at) (a .map .now) (a .flags .now) (a .n) (a .s) (l .map) (l .flags) (l .place) (l .ctx) (l .l) (l .inv)
-    (c .before .before .before .before .before .before .before .before .before .before .before .before .if1 .taken) _ _ (c .before .before .before .before .before .before .before .before .before .before .before .flag-limit .ensures .0) (c .before .before .before .before .before .before .before .before .before .before .take .ensures) (c .before .before .before .before .before .before .before .if2 .left) (r .result) _ (r .ensures .0)
+    (far .before .before .if1 .taken) _ _
+    (far .before .flag-limit .ensures .0)
+    (far .take .ensures)
+    (c .before .before .before .before .before .before .before .if2 .left) (r .result) _ (r .ensures .0)
     (c .if3 .taken) (record { flags = l .flags; map = r .last .1 .1 .0 })
 
 slice-write-flags : tie.Need-slice-write-flags Inv-loop μ-loop
-slice-write-flags c = omega (arith, c .before .before .before .before .before .before .before .before .before .before .before .before .if1 .taken, c .before .before .before .before .before .before .before .before .before .before .before .before .before .before .loop .inv .count)
+slice-write-flags c =
+    let far = c .before .before .before .before .before .before .before .before .before .before in
+    omega
+    (arith, far .before .before .if1 .taken, far .before .before .before .before .loop .inv .count)
 
 add-l : tie.Need-add-l Inv-loop μ-loop
-add-l c = omega (arith, c .before .before .before .before .before .before .before .before .before .before .before .before .if1 .taken)
+add-l c =
+    let far = c .before .before .before .before .before .before .before .before .before .before in
+    omega (arith, far .before .before .if1 .taken)
 
 loop-less : tie.Need-loop-less Inv-loop μ-loop
-loop-less c = omega (arith, c .before .before .before .before .before .before .before .before .before .before .before .before .if1 .taken)
+loop-less c =
+    let far = c .before .before .before .before .before .before .before .before .before .before in
+    omega (arith, far .before .before .if1 .taken)
 
 loop-again : tie.Need-loop-again Inv-loop μ-loop
 loop-again c =
-    let a = c .before .before .before .before .before .before .before .before .before .before .before .before .before .before .before .before .before .before .args in
-    let l = c .before .before .before .before .before .before .before .before .before .before .before .before .before .before .loop in
+    let far = c .before .before .before .before .before .before .before .before .before .before in
+    let a = far .before .before .before .before .before .before .before .before .args in
+    let l = far .before .before .before .before .loop in
     let r = c .before .before .before .before .read-sent in
-    let f = c .before .before .before .before .before .before .before .before .before .before .before .flag-limit .ensures in
-    let k = c .before .before .before .before .before .before .before .before .before .before .take .ensures in
+    let f = far .before .flag-limit .ensures in
+    let k = far .take .ensures in
     lines-turn (a .words .now) (a .at) (a .map .now) (a .flags .now) (a .n) (a .s) (l .map) (l .flags) (l .place) (l .ctx) (l .l) (l .inv)
-    (c .before .before .before .before .before .before .before .before .before .before .before .before .if1 .taken) _ _ (f .0) k (c .before .before .before .before .before .before .before .if2 .left) (r .result) (r .last .1 .1 .0) (r .ensures .0)
+    (far .before .before .if1 .taken) _ _ (f .0) k
+    (c .before .before .before .before .before .before .before .if2 .left) (r .result) (r .last .1 .1 .0) (r .ensures .0)
     (c .if3 .left) (r .kept .1 .1 .0) (r .ensures .1) (omega (arith, k .below (f .1), f .2))
 
 same-length-5 : tie.Need-same-length-5 Inv-loop μ-loop
@@ -93,7 +125,8 @@ returns-3 : tie.Need-returns-3 Inv-loop μ-loop
 returns-3 c =
     let a = c .before .before .before .before .before .before .args in
     let l = c .before .before .loop in
-    lines-end (a .words .now) (a .at) (a .map .now) (a .flags .now) (a .n) (a .s) (l .map) (l .flags) (l .place) (l .ctx) (l .l) (l .inv) (c .if1 .left)
+    lines-end (a .words .now) (a .at) (a .map .now) (a .flags .now) (a .n) (a .s) (l .map) (l .flags) (l .place) (l .ctx) (l .l) (l .inv)
+    (c .if1 .left)
 
 pub read-lines-spec : {M : Type 1} → statement M
 read-lines-spec =

@@ -37,7 +37,9 @@ take-requires : tie.Need-take-requires
 take-requires c κs = (omega arith, omega (arith, known (c .before) .context, c .before .before .before .before .pre .1 .1))
 
 cast-t17 : tie.Need-cast-t17
-cast-t17 c = let s = c .before .before .before .before .before .before .before in omega (arith, c .before .before .take .ensures .below (omega (arith, s .pre .1 .0)), s .pre .1 .1)
+cast-t17 c =
+    let s = c .before .before .before .before .before .before .before in
+    omega (arith, c .before .before .take .ensures .below (omega (arith, s .pre .1 .0)), s .pre .1 .1)
 
 index-at-requires : tie.Need-index-at-requires
 index-at-requires c κs =
@@ -49,7 +51,8 @@ returns : tie.Need-returns
 returns c =
     let s = c .before .before .before .before .before .before .before .before in
     let a = s .args in
-    ranked-read (a .map .now) (a .s) (a .n) (a .l) (a .a) (s .pre .1 .0) (s .pre .1 .1) (s .pre .1 .2) _ (c .before .before .before .before .before .near-cell .ensures) (s .pre .0 .3)
+    ranked-read (a .map .now) (a .s) (a .n) (a .l) (a .a) (s .pre .1 .0) (s .pre .1 .1) (s .pre .1 .2) _
+    (c .before .before .before .before .before .near-cell .ensures) (s .pre .0 .3)
     (a .words .now) (a .at) _ _ (c .before .before .before .take .ensures) (c .index-at .ensures)
 
 pub read-ranked-spec : {M : Type 1} → statement M

@@ -1,5 +1,4 @@
-use mathlib.Core.Path.{_∙_}
-use Prim.Native.Nat.{_≤_, _-_}
+use Prim.Native.Nat.{_-_}
 use native.Mathlib.Omega.{arith}
 use borrow.Author.Needs.{needs}
 use Rattle.scan.specs.Scan.{placeAt, cellIn}
@@ -17,8 +16,11 @@ same-length c = search needs
 returns : tie.Need-returns
 returns c =
     let a = c .before .before .before .before .before .before .before .args in
-    let r = c .before .before .read-cells in
-    (cells-all (a .words .now) (a .n) (a .s) (a .l) (a .flag) (a .at) (a .map .now) _ (r .result) (c .before .before .before .before .if1 .taken) (r .ensures .0), r .ensures .1)
+    let r = c .before .before .read-cells in (
+      cells-all (a .words .now) (a .n) (a .s) (a .l) (a .flag) (a .at) (a .map .now) _ (r .result) (c .before .before .before .before .if1 .taken)
+          (r .ensures .0),
+      r .ensures .1,
+    )
 
 read-index-requires : tie.Need-read-index-requires
 read-index-requires c κs = let p = c .before .before .before .before .before .pre in ((p .0 .0, p .0 .1, p .0 .0 .some), p .1)
@@ -31,11 +33,13 @@ same-length-2 c = search needs
 
 returns-2 : tie.Need-returns-2
 returns-2 c =
-    let s = c .before .before .before .before .before .before .before .before .before .before .before .before in
+    let far = c .before .before .before .before .before .before .before .before .before .before in
+    let s = far .before .before in
     let a = s .args in
     let r = c .before .before .before .before .before .before .read-index in
     let e = c .before .before .before .fill-line .ensures in (
-      cells-constant (a .words .now) (a .n) (a .s) (a .l) (a .flag) (a .at) (a .map .now) _ (r .result .place) (r .result .index .0) (c .before .before .before .before .before .before .before .before .if2 .taken) (r .ensures .0) e,
+      cells-constant (a .words .now) (a .n) (a .s) (a .l) (a .flag) (a .at) (a .map .now) _ (r .result .place) (r .result .index .0)
+          (c .before .before .before .before .before .before .before .before .if2 .taken) (r .ensures .0) e,
       rw e (fill-below (a .s) (a .l) (a .n) (λ b. r .result .index .0) (a .map .now) (a .s .len) (λ b. r .ensures .1) (s .pre .1 .2)),
     )
 
@@ -52,7 +56,8 @@ returns-3 c =
     let s = c .before .before .before .before .before .before .before .before in
     let a = s .args in
     let e = c .before .before .copy-line .ensures in (
-      cells-copied (a .words .now) (a .n) (a .s) (a .l) (a .flag) (a .at) (a .map .now) _ (c .before .before .before .before .before .if1 .left) (c .before .before .before .before .if2 .left) e,
+      cells-copied (a .words .now) (a .n) (a .s) (a .l) (a .flag) (a .at) (a .map .now) _ (c .before .before .before .before .before .if1 .left)
+          (c .before .before .before .before .if2 .left) e,
       rw e
           (fill-below (a .s) (a .l) (a .n) (λ b. cellIn (a .map .now) (a .s) (a .l - 1) b) (a .map .now) (a .s .len)
           (λ b. s .pre .1 .2 (placeAt (a .s) (a .l - 1) b)) (s .pre .1 .2)),

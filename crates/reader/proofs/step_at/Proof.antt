@@ -27,10 +27,12 @@ returns-3 : tie.Need-returns-3
 returns-3 c =
     let s = c .before .before .before .before .before .before .args in
     ap (λ (k : ℕ). Second (getD (s .words .now) (s .at) 0 - k)) (c .before .before .call .ensures)
-    ∙ step-second _ _ _ _ _ (c .before .before .before .before .if1 .left) (omega (arith, c .before .if2 .left, c .before .before .call .ensures)) (omega (arith, c .if3 .taken, c .before .before .call .ensures))
+    ∙ step-second _ _ _ _ _ (c .before .before .before .before .if1 .left) (omega (arith, c .before .if2 .left, c .before .before .call .ensures))
+    (omega (arith, c .if3 .taken, c .before .before .call .ensures))
 
 returns-4 : tie.Need-returns-4
-returns-4 c = step-above _ _ _ _ _ (c .before .before .before .before .if1 .left) (omega (arith, c .before .if2 .left, c .before .before .call .ensures)) (omega (arith, c .if3 .left, c .before .before .call .ensures))
+returns-4 c = step-above _ _ _ _ _ (c .before .before .before .before .if1 .left)
+    (omega (arith, c .before .if2 .left, c .before .before .call .ensures)) (omega (arith, c .if3 .left, c .before .before .call .ensures))
 
 pub step-at-spec : {M : Type 1} → statement M
 step-at-spec =

@@ -30,7 +30,8 @@ taken-by-requires-3 : tie.Need-taken-by-requires-3
 taken-by-requires-3 c κs = search needs
 
 returns : tie.Need-returns
-returns c = rw (c .taken-by .ensures) (took-second _ _ _ _ _ _ (sym (c .before .before .before .before .step-in .ensures) ∙ c .before .before .second .given .1))
+returns c = rw (c .taken-by .ensures) (took-second _ _ _ _ _ _ (sym (c .before .before .before .before .step-in .ensures)
+    ∙ c .before .before .second .given .1))
 
 returns-2 : tie.Need-returns-2
 returns-2 c = rw (c .taken-by2 .ensures) (took-ended _ _ _ _ _ (sym (c .before .before .before .step-in .ensures) ∙ c .before .enum-told .given .1))

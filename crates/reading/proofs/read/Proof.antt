@@ -22,7 +22,8 @@ refuse-requires c κs = search needs
 returns : tie.Need-returns
 returns c =
     let a = c .before .before .before .before .before .before .before .args in
-    reads-refused _ _ _ _ _ (limited (a .width) (a .height) (a .bd) (a .cache .now) (length (a .map .now)) (length (a .flags .now)) (a .words .now) _ (c .before .before .limits .ensures) (c .before .if1 .taken)) (c .refuse .ensures)
+    reads-refused _ _ _ _ _ (limited (a .width) (a .height) (a .bd) (a .cache .now) (length (a .map .now)) (length (a .flags .now)) (a .words .now) _
+    (c .before .before .limits .ensures) (c .before .if1 .taken)) (c .refuse .ensures)
 
 read-colors-requires : tie.Need-read-colors-requires
 read-colors-requires c κs =
@@ -34,12 +35,14 @@ refuse-requires-2 c κs = search needs
 
 returns-2 : tie.Need-returns-2
 returns-2 c =
-    let a = c .before .before .before .before .before .before .before .before .before .before .before .args in
+    let far = c .before .before .before .before .before .before .before .before .before .before in
+    let a = far .before .args in
     let r = c .before .before .before .before .read-colors in
     let passed = sym (c .before .before .before .before .before .before .limits .ensures) ∙ c .before .before .before .before .before .if1 .left in
     let fault = c .before .if2 .taken in
     reads-refused _ _ _ _ _
-    (settled-fault (a .width) (a .height) (a .bd) (a .cache .now) (length (a .map .now)) (length (a .flags .now)) (a .words .now) passed none (r .result .place)
+    (settled-fault (a .width) (a .height) (a .bd) (a .cache .now) (length (a .map .now)) (length (a .flags .now)) (a .words .now) passed none
+    (r .result .place)
     (colors-faulty (a .width) (a .height) (a .bd) (a .cache .now) (a .words .now) (r .result) (r .ensures .0) none fault) fault)
     (c .refuse2 .ensures)
 
@@ -51,24 +54,31 @@ refuse-requires-3 c κs = search needs
 
 returns-3 : tie.Need-returns-3
 returns-3 c =
-    let a = c .before .before .before .before .before .before .before .before .before .before .before .before .before .before .before .args in
+    let far = c .before .before .before .before .before .before .before .before .before .before in
+    let a = far .before .before .before .before .before .args in
     let r = c .before .before .before .before .before .before .before .before .read-colors in
     let o = c .before .before .before .before .read-orient in
-    let passed = sym (c .before .before .before .before .before .before .before .before .before .before .limits .ensures) ∙ c .before .before .before .before .before .before .before .before .before .if1 .left in
+    let passed = sym (far .limits .ensures)
+    ∙ c .before .before .before .before .before .before .before .before .before .if1 .left in
     let fault = c .before .if3 .taken in
     reads-refused _ _ _ _ _
-    (settled-fault (a .width) (a .height) (a .bd) (a .cache .now) (length (a .map .now)) (length (a .flags .now)) (a .words .now) passed none (o .result .place)
-    (orient-faulty (a .width) (a .height) (a .bd) (a .cache .now) (a .words .now) (r .result) (r .ensures .0) (c .before .before .before .before .before .if2 .left) (o .result .place) _ (o .ensures) none fault) fault)
+    (settled-fault (a .width) (a .height) (a .bd) (a .cache .now) (length (a .map .now)) (length (a .flags .now)) (a .words .now) passed none
+    (o .result .place)
+    (orient-faulty (a .width) (a .height) (a .bd) (a .cache .now) (a .words .now) (r .result) (r .ensures .0)
+    (c .before .before .before .before .before .if2 .left) (o .result .place) _ (o .ensures) none fault) fault)
     (c .refuse3 .ensures)
 
 read-aside-requires : tie.Need-read-aside-requires
 read-aside-requires c κs =
-    let a = c .before .before .before .before .before .before .before .before .before .before .before .before .before .before .before .before .before .before .args in
-    let r = c .before .before .before .before .before .before .before .before .before .before .before .read-colors in
+    let far = c .before .before .before .before .before .before .before .before .before .before in
+    let a = far .before .before .before .before .before .before .before .before .args in
+    let r = far .before .read-colors in
     let o = c .before .before .before .before .before .before .before .read-orient in
-    let passed = sym (c .before .before .before .before .before .before .before .before .before .before .before .before .before .limits .ensures) ∙ c .before .before .before .before .before .before .before .before .before .before .before .before .if1 .left in
+    let passed = sym (far .before .before .before .limits .ensures)
+    ∙ far .before .before .if1 .left in
     let sure = c .before .before .before .before .before .before .before .before .if2 .left in
-    headed (a .width) (a .height) (a .bd) (a .cache .now) (a .words .now) (r .result) (r .ensures .0) sure (o .result .place) (eqb (o .result .second) 1) (o .ensures)
+    headed (a .width) (a .height) (a .bd) (a .cache .now) (a .words .now) (r .result) (r .ensures .0) sure (o .result .place)
+    (eqb (o .result .second) 1) (o .ensures)
     (c .before .before .before .before .if3 .left) (length (a .map .now)) (length (a .flags .now)) passed (r .ensures .1 .0) (r .ensures .1 .1 sure)
 
 same-length : tie.Need-same-length

@@ -45,8 +45,9 @@ slice-aggregate-read-map-3 c = search needs
 
 read-map-requires : tie.Need-read-map-requires
 read-map-requires c κs =
+    let far = c .before .before .before .before .before .before .before .before .before .before in
     let l = c .before .before .before .before .before .before in
-    let s = c .before .before .before .before .before .before .before .before .before .before .before in
+    let s = far .before in
     let b = s .args .b in
     let count = l .lines-of .ensures ∙ sym (lines-are (b .width) (b .height) (b .transposed) .0) in (
       s .pre,

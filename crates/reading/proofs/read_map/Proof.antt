@@ -1,5 +1,5 @@
-use mathlib.Core.Path.{_≡_, refl, sym, _∙_}
-use Prim.Native.Nat.{_*_, _≤_}
+use mathlib.Core.Path.{_≡_, sym, _∙_}
+use Prim.Native.Nat.{_≤_}
 use native.Mathlib.Omega.{arith}
 use lib.ListN.{length}
 use borrow.Author.Needs.{needs}
@@ -14,21 +14,35 @@ use Rattle.reading.proofs.read_map.Tie as tie
 -- what the lines give
 told-palette : (r : tie.After-read-lines) → let s = r .before .before .before .before .before .before .before .before .before .before .before in
     readPalette (s .args .b .width) (s .args .b .height) (s .args .b .bd) (s .args .cache .now) (s .args .words .now)
-    ≡ told (r .read-lines .result) (made (s .args .b) (s .args .cache .now) (s .args .words .now) (length (s .args .map .now)) (length (s .args .flags .now)) (s .pre .0) (r .read-lines .last .1 .1 .0) (r .read-lines .last .1 .1 .1 .0)) (s .args .words .now)
+    ≡ told (r .read-lines .result) (made (s .args .b) (s .args .cache .now) (s .args .words .now) (length (s .args .map .now)) (length
+    (s .args .flags .now)) (s .pre .0) (r .read-lines .last .1 .1 .0) (r .read-lines .last .1 .1 .1 .0)) (s .args .words .now)
 told-palette r =
     let s = r .before .before .before .before .before .before .before .before .before .before .before in
-    palette-told (s .args .b) (s .args .cache .now) (s .args .words .now) (length (s .args .map .now)) (length (s .args .flags .now)) (s .pre .0) _ _ _ _ _ _
+    palette-told (s .args .b) (s .args .cache .now) (s .args .words .now) (length (s .args .map .now)) (length (s .args .flags .now)) (s .pre .0) _ _
+    _ _ _ _
     (r .before .before .before .scan-of .ensures) (s .pre .1 .0) (s .pre .1 .1) (r .read-lines .ensures)
 
-cells-fit : (r : tie.After-read-lines) → length (r .read-lines .last .1 .1 .0) ≤ length (r .before .before .before .before .before .before .before .before .before .before .before .args .map .now)
+cells-fit : (r : tie.After-read-lines) → length (r .read-lines .last .1 .1 .0) ≤ length
+    (r .before .before .before .before .before .before .before .before .before .before .before .args .map .now)
 cells-fit r =
     let s = r .before .before .before .before .before .before .before .before .before .before .before in
-    omega (arith, r .read-lines .kept .1 .1 .0, cells-room (s .args .b) (s .args .cache .now) (s .args .words .now) (length (s .args .map .now)) (length (s .args .flags .now)) (s .pre .0) _ (s .pre .1 .0))
+    omega (
+      arith,
+      r .read-lines .kept .1 .1 .0,
+      cells-room (s .args .b) (s .args .cache .now) (s .args .words .now) (length (s .args .map .now))
+          (length (s .args .flags .now)) (s .pre .0) _ (s .pre .1 .0),
+    )
 
-marks-fit : (r : tie.After-read-lines) → length (r .read-lines .last .1 .1 .1 .0) ≤ length (r .before .before .before .before .before .before .before .before .before .before .before .args .flags .now)
+marks-fit : (r : tie.After-read-lines) → length (r .read-lines .last .1 .1 .1 .0) ≤ length
+    (r .before .before .before .before .before .before .before .before .before .before .before .args .flags .now)
 marks-fit r =
     let s = r .before .before .before .before .before .before .before .before .before .before .before in
-    omega (arith, r .read-lines .kept .1 .1 .1 .0, marks-room (s .args .b) (s .args .cache .now) (s .args .words .now) (length (s .args .map .now)) (length (s .args .flags .now)) (s .pre .0) _ (s .pre .1 .1))
+    omega (
+      arith,
+      r .read-lines .kept .1 .1 .1 .0,
+      marks-room (s .args .b) (s .args .cache .now) (s .args .words .now) (length (s .args .map .now))
+          (length (s .args .flags .now)) (s .pre .0) _ (s .pre .1 .1),
+    )
 
 scan-of-requires : tie.Need-scan-of-requires
 scan-of-requires c κs = search needs
@@ -36,7 +50,8 @@ scan-of-requires c κs = search needs
 read-lines-requires : tie.Need-read-lines-requires
 read-lines-requires c κs =
     let s = c .before .before .before .before .before .before .before .before .before .before in
-    lines-ready (s .args .b) (s .args .cache .now) (s .args .words .now) (length (s .args .map .now)) (length (s .args .flags .now)) (s .pre .0) _ _ _ (c .before .before .scan-of .ensures) (s .pre .1 .0) (s .pre .1 .1)
+    lines-ready (s .args .b) (s .args .cache .now) (s .args .words .now) (length (s .args .map .now)) (length (s .args .flags .now)) (s .pre .0) _ _ _
+    (c .before .before .scan-of .ensures) (s .pre .1 .0) (s .pre .1 .1)
 
 refuse-requires : tie.Need-refuse-requires
 refuse-requires c κs = search needs
@@ -51,7 +66,9 @@ returns : tie.Need-returns
 returns c =
     let r = c .before .before .before .before .before .before .before in
     let s = r .before .before .before .before .before .before .before .before .before .before .before in
-    reads-refused _ _ _ _ _ (settled-fault (s .args .b .width) (s .args .b .height) (s .args .b .bd) (s .args .cache .now) (length (s .args .map .now)) (length (s .args .flags .now)) (s .args .words .now) (s .pre .0 .passed) _ (r .read-lines .result) (told-palette r) (c .before .if1 .taken)) (c .refuse .ensures)
+    reads-refused _ _ _ _ _ (settled-fault (s .args .b .width) (s .args .b .height) (s .args .b .bd) (s .args .cache .now) (length
+    (s .args .map .now)) (length (s .args .flags .now)) (s .args .words .now) (s .pre .0 .passed) _ (r .read-lines .result) (told-palette r)
+    (c .before .if1 .taken)) (c .refuse .ensures)
 
 refuse-requires-2 : tie.Need-refuse-requires-2
 refuse-requires-2 c κs = search needs
@@ -67,11 +84,15 @@ returns-2 c =
     let r = c .before .before .before .before .before .before .before .before .before in
     let s = r .before .before .before .before .before .before .before .before .before .before .before in
     reads-refused _ _ _ _ _
-    (settled-more (s .args .b .width) (s .args .b .height) (s .args .b .bd) (s .args .cache .now) (length (s .args .map .now)) (length (s .args .flags .now)) (s .args .words .now) (s .pre .0 .passed) _ (r .read-lines .result) (told-palette r) (c .before .before .before .if1 .left) (c .before .if2 .taken))
+    (settled-more (s .args .b .width) (s .args .b .height) (s .args .b .bd) (s .args .cache .now) (length (s .args .map .now))
+    (length (s .args .flags .now)) (s .args .words .now) (s .pre .0 .passed) _ (r .read-lines .result) (told-palette r)
+    (c .before .before .before .if1 .left) (c .before .if2 .taken))
     (c .refuse2 .ensures)
 
 relists-requires : tie.Need-relists-requires
-relists-requires c κs = c .before .before .before .before .before .before .before .before .before .before .before .before .before .before .before .before .before .before .before .before .before .before .pre .1 .2
+relists-requires c κs =
+    let far = c .before .before .before .before .before .before .before .before .before .before in
+    far .before .before .before .before .before .before .before .before .before .before .before .before .pre .1 .2
 
 refuse-requires-3 : tie.Need-refuse-requires-3
 refuse-requires-3 c κs = search needs
@@ -87,18 +108,32 @@ same-length-7 c = search needs
 
 returns-3 : tie.Need-returns-3
 returns-3 c =
-    let r = c .before .before .before .before .before .before .before .before .before .before .before .before .before .before .before .before in
+    let far = c .before .before .before .before .before .before .before .before .before .before in
+    let r = far .before .before .before .before .before .before in
     let s = r .before .before .before .before .before .before .before .before .before .before .before in
     let other = sym (c .before .before .before .before .relists .ensures) ∙ not-true _ (c .before .if3 .taken) in
     reads-refused _ _ _ _ _
-    (settled-other (s .args .b .width) (s .args .b .height) (s .args .b .bd) (s .args .cache .now) (length (s .args .map .now)) (length (s .args .flags .now)) (s .args .words .now) (s .pre .0 .passed) _ (r .read-lines .result) (told-palette r) (c .before .before .before .before .before .before .before .before .before .before .if1 .left) (c .before .before .before .before .before .before .before .before .if2 .left) other)
+    (settled-other (s .args .b .width) (s .args .b .height) (s .args .b .bd) (s .args .cache .now) (length (s .args .map .now))
+    (length (s .args .flags .now)) (s .args .words .now) (s .pre .0 .passed) _ (r .read-lines .result) (told-palette r)
+    (far .if1 .left)
+    (c .before .before .before .before .before .before .before .before .if2 .left) other)
     (c .refuse3 .ensures)
 
 copy-bytes-requires : tie.Need-copy-bytes-requires
-copy-bytes-requires c κs = (omega arith, cells-fit (c .before .before .before .before .before .before .before .before .before .before .before .before .before .before .before .before .before))
+copy-bytes-requires c κs =
+    let far = c .before .before .before .before .before .before .before .before .before .before in (
+      omega arith,
+      cells-fit
+          (far .before .before .before .before .before .before .before),
+    )
 
 copy-bytes-requires-2 : tie.Need-copy-bytes-requires-2
-copy-bytes-requires-2 c κs = (omega arith, marks-fit (c .before .before .before .before .before .before .before .before .before .before .before .before .before .before .before .before .before .before .before .before .before .before))
+copy-bytes-requires-2 c κs =
+    let far = c .before .before .before .before .before .before .before .before .before .before in (
+      omega arith,
+      marks-fit
+          (far .before .before .before .before .before .before .before .before .before .before .before .before),
+    )
 
 same-length-8 : tie.Need-same-length-8
 same-length-8 c = search needs
@@ -117,12 +152,18 @@ same-length-12 c = search needs
 
 returns-4 : tie.Need-returns-4
 returns-4 c =
-    let r = c .before .before .before .before .before .before .before .before .before .before .before .before .before .before .before .before .before .before .before .before .before .before .before .before .before .before in
+    let far = c .before .before .before .before .before .before .before .before .before .before in
+    let r = far .before .before .before .before .before .before .before .before .before .before .before .before .before .before .before .before in
     let s = r .before .before .before .before .before .before .before .before .before .before .before in
-    let same = sym (c .before .before .before .before .before .before .before .before .before .before .before .before .before .before .relists .ensures) ∙ not-false _ (c .before .before .before .before .before .before .before .before .before .before .before .if3 .left) in
-    reads-back _ (made (s .args .b) (s .args .cache .now) (s .args .words .now) (length (s .args .map .now)) (length (s .args .flags .now)) (s .pre .0) (r .read-lines .last .1 .1 .0) (r .read-lines .last .1 .1 .1 .0)) _ _ _ _ _
-    (settled-back (s .args .b .width) (s .args .b .height) (s .args .b .bd) (s .args .cache .now) (length (s .args .map .now)) (length (s .args .flags .now)) (s .args .words .now) (s .pre .0 .passed) _ (r .read-lines .result) (told-palette r) (c .before .before .before .before .before .before .before .before .before .before .before .before .before .before .before .before .before .before .before .before .if1 .left) (c .before .before .before .before .before .before .before .before .before .before .before .before .before .before .before .before .before .before .if2 .left) same)
-    (answer-is (s .args .b) (s .args .cache .now) (s .args .words .now) (length (s .args .map .now)) (length (s .args .flags .now)) (s .pre .0) (r .read-lines .last .1 .1 .0) (r .read-lines .last .1 .1 .1 .0))
+    let same = sym (far .before .before .before .before .relists .ensures) ∙ not-false _ (far .before .if3 .left) in
+    reads-back _ (made (s .args .b) (s .args .cache .now) (s .args .words .now) (length (s .args .map .now)) (length (s .args .flags .now))
+    (s .pre .0) (r .read-lines .last .1 .1 .0) (r .read-lines .last .1 .1 .1 .0)) _ _ _ _ _
+    (settled-back (s .args .b .width) (s .args .b .height) (s .args .b .bd) (s .args .cache .now) (length (s .args .map .now))
+    (length (s .args .flags .now)) (s .args .words .now) (s .pre .0 .passed) _ (r .read-lines .result) (told-palette r)
+    (far .before .before .before .before .before .before .before .before .before .before .if1 .left)
+    (far .before .before .before .before .before .before .before .before .if2 .left) same)
+    (answer-is (s .args .b) (s .args .cache .now) (s .args .words .now) (length (s .args .map .now)) (length (s .args .flags .now)) (s .pre .0)
+    (r .read-lines .last .1 .1 .0) (r .read-lines .last .1 .1 .1 .0))
     (copied _ _ _ (c .before .before .before .before .before .before .before .before .copy-bytes .ensures) (cells-fit r))
     (copied _ _ _ (c .before .before .before .copy-bytes2 .ensures) (marks-fit r))
 

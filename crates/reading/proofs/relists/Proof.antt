@@ -14,20 +14,24 @@ same-length c = search needs
 
 returns : tie.Need-returns
 returns c =
-    let s = c .before .before .before .before .before .before .before .before .before .before .before .before in
+    let far = c .before .before .before .before .before .before .before .before .before .before in
+    let s = far .before .before in
     let a = s .args in
     let b = a .b in
     let l = c .before .before .before .before .list in
-    relists-not (b .width) (b .height) (b .bd) (a .cache .now) (paletteOf (b .colors) (b .n) (b .transposed) (a .map .now) (a .flags .now)) (a .aside .now) _ (l .result) (l .ensures) (s .pre)
+    relists-not (b .width) (b .height) (b .bd) (a .cache .now) (paletteOf (b .colors) (b .n) (b .transposed) (a .map .now) (a .flags .now))
+    (a .aside .now) _ (l .result) (l .ensures) (s .pre)
     (a .words .now) (c .if1 .taken)
 
 same-words-requires : tie.Need-same-words-requires
 same-words-requires c κs =
-    let s = c .before .before .before .before .before .before .before .before .before .before .before .before .before in
+    let far = c .before .before .before .before .before .before .before .before .before .before in
+    let s = far .before .before .before in
     let a = s .args in
     let b = a .b in
     let l = c .before .before .before .before .before .list in
-    let few = count-few (b .width) (b .height) (b .bd) (a .cache .now) (paletteOf (b .colors) (b .n) (b .transposed) (a .map .now) (a .flags .now)) (a .aside .now) _ (l .result) (l .ensures) in
+    let few = count-few (b .width) (b .height) (b .bd) (a .cache .now) (paletteOf (b .colors) (b .n) (b .transposed) (a .map .now) (a .flags .now))
+    (a .aside .now) _ (l .result) (l .ensures) in
     omega (arith, few, l .kept .1 .1 .1 .1 .1 .1 .1 .1 .1 .0, s .pre)
 
 same-length-2 : tie.Need-same-length-2
@@ -35,11 +39,13 @@ same-length-2 c = search needs
 
 returns-2 : tie.Need-returns-2
 returns-2 c =
-    let s = c .before .before .before .before .before .before .before .before .before .before .before .before .before .before in
+    let far = c .before .before .before .before .before .before .before .before .before .before in
+    let s = far .before .before .before .before in
     let a = s .args in
     let b = a .b in
     let l = c .before .before .before .before .before .before .list in
-    relists-same (b .width) (b .height) (b .bd) (a .cache .now) (paletteOf (b .colors) (b .n) (b .transposed) (a .map .now) (a .flags .now)) (a .aside .now) _ (l .result) (l .ensures) (s .pre)
+    relists-same (b .width) (b .height) (b .bd) (a .cache .now) (paletteOf (b .colors) (b .n) (b .transposed) (a .map .now) (a .flags .now))
+    (a .aside .now) _ (l .result) (l .ensures) (s .pre)
     (a .words .now) (c .before .before .if1 .left) _ (c .same-words .ensures)
 
 pub relists-spec : {M : Type 1} → statement M

@@ -1,9 +1,8 @@
-use mathlib.Core.Path.{_≡_, refl, sym, ap, _∙_}
-use Prim.Native.Nat.{ℕ, _+_, _-_, _*_, _<_, _≤_}
+use mathlib.Core.Path.{_≡_, refl, sym, _∙_}
+use Prim.Native.Nat.{_-_, _≤_}
 use native.Mathlib.Omega.{arith}
-use lib.ListN.{length}
 use borrow.Author.Needs.{needs}
-use lib.ListN.{take, drop, getD}
+use lib.ListN.{take, drop}
 use lib.Seq.{length-take-le}
 use Rattle.reading.specs.Reading.{sameList}
 use Rattle.reading.proofs.Relisted.{same-none, same-apart, same-next, same-split, same-end}
@@ -17,7 +16,10 @@ abbrev μ-loop : tie.MeasureT-loop
 μ-loop aside count words i₀ i = count - i
 
 returns : tie.Need-returns Inv-loop μ-loop
-returns c = let a = c .before .args in same-none (take (a .count) (a .aside .now)) (a .words .now) (λ q. c .if1 .taken (sym (length-take-le (a .count) (a .aside .now) (c .before .pre)) ∙ q))
+returns c =
+    let a = c .before .args in
+    same-none (take (a .count) (a .aside .now)) (a .words .now)
+    (λ q. c .if1 .taken (sym (length-take-le (a .count) (a .aside .now) (c .before .pre)) ∙ q))
 
 loop-holds : tie.Need-loop-holds Inv-loop μ-loop
 loop-holds c = (search needs, refl)
@@ -38,7 +40,9 @@ returns-2 : tie.Need-returns-2 Inv-loop μ-loop
 returns-2 c =
     let a = c .before .before .before .before .before .before .args in
     let l = c .before .before .before .before .loop in
-    same-apart _ _ _ _ (c .if2 .taken) ∙ sym (same-split (a .aside .now) (a .words .now) (a .count) (l .i) (c .before .before .before .before .before .before .pre) (c .before .before .before .before .before .if1 .left) (c .before .before .before .loop-test .taken)) ∙ l .inv .1
+    same-apart _ _ _ _ (c .if2 .taken) ∙ sym (same-split (a .aside .now) (a .words .now) (a .count) (l .i)
+    (c .before .before .before .before .before .before .pre) (c .before .before .before .before .before .if1 .left)
+    (c .before .before .before .loop-test .taken)) ∙ l .inv .1
 
 add-i : tie.Need-add-i Inv-loop μ-loop
 add-i c = search needs
@@ -49,14 +53,19 @@ loop-less c = search needs
 loop-again : tie.Need-loop-again Inv-loop μ-loop
 loop-again c =
     let a = c .before .before .before .before .before .before .args in
-    let l = c .before .before .before .before .loop in
-    (search needs, sym (same-next _ _ _ _ (c .if2 .left)) ∙ sym (same-split (a .aside .now) (a .words .now) (a .count) (l .i) (c .before .before .before .before .before .before .pre) (c .before .before .before .before .before .if1 .left) (c .before .before .before .loop-test .taken)) ∙ l .inv .1)
+    let l = c .before .before .before .before .loop in (
+      search needs,
+      sym (same-next _ _ _ _ (c .if2 .left)) ∙ sym
+          (same-split (a .aside .now) (a .words .now) (a .count) (l .i) (c .before .before .before .before .before .before .pre)
+          (c .before .before .before .before .before .if1 .left) (c .before .before .before .loop-test .taken)) ∙ l .inv .1,
+    )
 
 returns-3 : tie.Need-returns-3 Inv-loop μ-loop
 returns-3 c =
     let a = c .before .before .before .args in
     let l = c .before .loop in
-    sym (same-end (a .aside .now) (a .words .now) (a .count) (l .i) (c .before .before .before .pre) (c .before .before .if1 .left) (c .loop-test .left)) ∙ l .inv .1
+    sym (same-end (a .aside .now) (a .words .now) (a .count) (l .i) (c .before .before .before .pre) (c .before .before .if1 .left)
+    (c .loop-test .left)) ∙ l .inv .1
 
 pub same-words-spec : {M : Type 1} → statement M
 same-words-spec =
