@@ -139,7 +139,7 @@ module _ (b : Head) (cache ws : List ℕ) (cells lines : ℕ) (x : Headed b cach
       → map₀ ≡ replicate (b .width * b .height) 0 → flags₀ ≡ replicate (scanOf (b .width) (b .height) (b .transposed) .lines) 0
       → (Sound s (length map₀) × (length flags₀ ≡ s .lines)) × ((2 ≤ b .n) × (b .n ≤ 8) × Below map₀ (b .n))
   lines-ready s map₀ flags₀ is e f =
-      let sound = scan-sound (b .width) (b .height) (b .transposed) (z .wide) (z .wideMost) (z .high) (z .highMost) in
+      let sound = scan-sound (b .width) (b .height) (b .transposed) (z .sides .0 .0) (z .sides .0 .1) (z .sides .1 .0) (z .sides .1 .1) in
       rw (
         is,
         e,

@@ -65,12 +65,8 @@ module _ (w h bd : ℕ) (cache : List ℕ) (cells lines : ℕ) (ws : List ℕ) w
 -- ---- what the limits say
 
 pub record Sizes (w h bd cached cells lines : ℕ) : Type 0 where
-  pub wide : 1 ≤ w
-  pub wideMost : w ≤ 64
-  pub high : 1 ≤ h
-  pub highMost : h ≤ 64
-  pub deep : 8 ≤ bd
-  pub deepMost : bd ≤ 12
+  pub sides : ((1 ≤ w) × (w ≤ 64)) × ((1 ≤ h) × (h ≤ 64))
+  pub deep : (8 ≤ bd) × (bd ≤ 12)
   pub room : w * h ≤ cells
   pub rows : max w h ≤ lines
 
@@ -81,15 +77,9 @@ sizes w h bd cached cells lines e =
     let d = held (depthOk bd) 1 _ (s .1) in
     let k = held (cacheOk cached) 12 _ (d .1) in
     let r = held (roomsOk w h cells lines) 6 _ (k .1) in
-    let sides = sides-at w h (s .0) in
-    let deep = within-at 8 12 bd (d .0) in
     record {
-      wide = sides .0 .0;
-      wideMost = sides .0 .1;
-      high = sides .1 .0;
-      highMost = sides .1 .1;
-      deep = deep .0;
-      deepMost = deep .1;
+      sides = sides-at w h (s .0);
+      deep = within-at 8 12 bd (d .0);
       room = leb-true (w * h) cells (and-l (leb (w * h) cells) (leb (max w h) lines) (r .0));
       rows = leb-true (max w h) lines (and-r (leb (w * h) cells) (leb (max w h) lines) (r .0));
     }

@@ -28,7 +28,7 @@ returns c =
 read-colors-requires : tie.Need-read-colors-requires
 read-colors-requires c κs =
     let z = sizes _ _ _ _ _ _ (sym (c .before .limits .ensures) ∙ c .if1 .left) in
-    (z .deep, z .deepMost)
+    z .deep
 
 refuse-requires-2 : tie.Need-refuse-requires-2
 refuse-requires-2 c κs = search needs

@@ -13,14 +13,14 @@ use Rattle.reading.proofs.read_aside.Statement.{statement}
 use Rattle.reading.proofs.read_aside.Tie as tie
 
 cells-few : (s : tie.Start) → s .args .b .width * s .args .b .height ≤ 4096
-cells-few s = let z = sizes _ _ _ _ _ _ (s .pre .passed) in mul-le-mul (z .wideMost) (z .highMost)
+cells-few s = let z = sizes _ _ _ _ _ _ (s .pre .passed) in mul-le-mul (z .sides .0 .1) (z .sides .1 .1)
 
 marks-few : (c : tie.After-lines-of) → c .lines-of .result ≤ 64
 marks-few c =
     let s = c .before .before .before .before .before in
     let b = s .args .b in
     let z = sizes _ _ _ _ _ _ (s .pre .passed) in
-    lines-most (b .transposed) (b .width) (b .height) 64 (c .lines-of .ensures) (z .wideMost) (z .highMost)
+    lines-most (b .transposed) (b .width) (b .height) 64 (c .lines-of .ensures) (z .sides .0 .1) (z .sides .1 .1)
 
 lines-of-requires : tie.Need-lines-of-requires
 lines-of-requires c κs = search needs
