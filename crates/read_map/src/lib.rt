@@ -16,7 +16,7 @@ ghost use Rattle.reader.specs.Steps.{told};
 ghost use Rattle.read_map.specs.Map.{readRanked, readIndex, readCell, readCells, readLines};
 
 // The index of a cell, and the place after its word.
-pub struct Found {
+struct Found {
     pub index: Index,
     pub place: Place,
 }

@@ -15,7 +15,7 @@ ghost use Rattle.reading.specs.Reading.{readOrient, sameList, relists, l
 ghost use Rattle.reading.specs.Steps.{Headed};
 
 // What is known ahead of the map: the block, its colours and orientation, and the place reached in the list.
-pub struct Head {
+struct Head {
     pub width: usize,
     pub height: usize,
     pub bd: u32,
@@ -108,7 +108,7 @@ fn relists(
 }
 
 // Reads the lines behind the head, into cells and marks; what is read to its end and would be listed again is given back.
-fn read_map(
+fn read_rest(
     b: Head,
     cache: &[u16],
     words: &[u32],
@@ -159,7 +159,7 @@ fn read_aside(b: Head, cache: &[u16], words: &[u32], map: &mut [u8], flags: &mut
     let mut marks = [0u8; 64];
     let mut aside = [0u32; 4234];
     let count = context::lines_of(b.transposed, b.width, b.height);
-    read_map(
+    read_rest(
         b,
         cache,
         words,

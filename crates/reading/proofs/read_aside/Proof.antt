@@ -31,20 +31,20 @@ mul-cells c = record { fits = lt-of-le-of-lt (cells-few (c .before .before .befo
 array-borrow-prefix-cells : tie.Need-array-borrow-prefix-cells
 array-borrow-prefix-cells c = cells-few (c .before .before .before .before .before .before)
 
-slice-aggregate-read-map : tie.Need-slice-aggregate-read-map
-slice-aggregate-read-map c = sym (length-take-le {A = ℕ} _ (replicate 4096 0) (cells-few (c .before .before .before .before .before .before .before)))
+slice-aggregate-read-rest : tie.Need-slice-aggregate-read-rest
+slice-aggregate-read-rest c = sym (length-take-le {A = ℕ} _ (replicate 4096 0) (cells-few (c .before .before .before .before .before .before .before)))
 
 array-borrow-prefix-marks : tie.Need-array-borrow-prefix-marks
 array-borrow-prefix-marks c = marks-few (c .before .before)
 
-slice-aggregate-read-map-2 : tie.Need-slice-aggregate-read-map-2
-slice-aggregate-read-map-2 c = sym (length-take-le {A = ℕ} _ (replicate 64 0) (marks-few (c .before .before .before)))
+slice-aggregate-read-rest-2 : tie.Need-slice-aggregate-read-rest-2
+slice-aggregate-read-rest-2 c = sym (length-take-le {A = ℕ} _ (replicate 64 0) (marks-few (c .before .before .before)))
 
-slice-aggregate-read-map-3 : tie.Need-slice-aggregate-read-map-3
-slice-aggregate-read-map-3 c = search needs
+slice-aggregate-read-rest-3 : tie.Need-slice-aggregate-read-rest-3
+slice-aggregate-read-rest-3 c = search needs
 
-read-map-requires : tie.Need-read-map-requires
-read-map-requires c κs =
+read-rest-requires : tie.Need-read-rest-requires
+read-rest-requires c κs =
     let far = c .before .before .before .before .before .before .before .before .before .before in
     let l = c .before .before .before .before .before .before in
     let s = far .before in
@@ -74,11 +74,11 @@ read-aside-spec =
     lines-of-requires
     mul-cells
     array-borrow-prefix-cells
-    slice-aggregate-read-map
+    slice-aggregate-read-rest
     array-borrow-prefix-marks
-    slice-aggregate-read-map-2
-    slice-aggregate-read-map-3
-    read-map-requires
+    slice-aggregate-read-rest-2
+    slice-aggregate-read-rest-3
+    read-rest-requires
     same-length
     same-length-2
     returns)

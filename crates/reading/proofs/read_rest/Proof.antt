@@ -8,8 +8,8 @@ use Rattle.reader.specs.Steps.{told}
 use Rattle.reading.specs.Reading.{readPalette}
 use Rattle.reading.proofs.Answers.{reads-refused, reads-back, settled-fault, settled-more, settled-other, settled-back, copied}
 use Rattle.reading.proofs.Ahead.{made, lines-ready, cells-room, marks-room, palette-told, answer-is}
-use Rattle.reading.proofs.read_map.Statement.{statement}
-use Rattle.reading.proofs.read_map.Tie as tie
+use Rattle.reading.proofs.read_rest.Statement.{statement}
+use Rattle.reading.proofs.read_rest.Tie as tie
 
 -- what the lines give
 told-palette : (r : tie.After-read-lines) → let s = r .before .before .before .before .before .before .before .before .before .before .before in
@@ -167,8 +167,8 @@ returns-4 c =
     (copied _ _ _ (c .before .before .before .before .before .before .before .before .copy-bytes .ensures) (cells-fit r))
     (copied _ _ _ (c .before .before .before .copy-bytes2 .ensures) (marks-fit r))
 
-pub read-map-spec : {M : Type 1} → statement M
-read-map-spec =
+pub read-rest-spec : {M : Type 1} → statement M
+read-rest-spec =
     tie.close
     (tie.spec
     scan-of-requires
