@@ -6,12 +6,11 @@ ghost use mathlib.Core.Bool.{cond};
 ghost use lib.Dec.{eqb};
 ghost use lib.ListN.{length, getD};
 ghost use lib.Ieee.{nan, binary32, add, lt};
-ghost use Rattle.near.specs.Near.{nearAt, rankBy, Below};
+ghost use Rattle.near.specs.Near.{rankBy, Below};
 ghost use Rattle.cells.specs.Cell.{square, totalOf, cheapest, eight};
-ghost use Rattle.scan.specs.Scan.{scanOf, placeAt, cellIn, fill, Sound};
+ghost use Rattle.scan.specs.Scan.{cellIn, fill, Sound};
 ghost use Rattle.map_search.specs.Lines.{distLine, rowCost, cellAt, copiedBy, lineOf, putLine, mapOf};
 ghost use Rattle.map_search.specs.Parts.{bestOf, Halted, constantBy, constantsBy, Priced, Built};
-ghost use Rattle.context.specs.Map.{rowAt, colAt};
 ghost use Rattle.map_search.specs.declared.Choice.{Choice};
 
 // A line's candidate; index is that of a constant line.

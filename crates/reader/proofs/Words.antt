@@ -9,7 +9,7 @@ use lib.Dec.{eqb, ltb, leb}
 use borrow.Author.Tests.{lt-ltb, le-leb, eq-eqb, eqb-true, ltb-true, ltb-false, leb-true, leb-false}
 use Rattle.lists.specs.Counted.{bit}
 use Rattle.literals.specs.Words.{word}
-use Rattle.reader.specs.Reader.{got, fault, isDue, due}
+use Rattle.reader.specs.Reader.{got, fault, isDue, DueByFields, due}
 
 pub due-word : (k f limit v : ℕ) (r : List ℕ) → v < limit → due k f limit (word k f v ∷ r) ≡ got v r
 unfolding due isDue word
@@ -38,8 +38,7 @@ none-of true false c h = refl
 none-of false b c h = refl
 
 -- kind and first field are the ones due, and the second is below the limit
-pub due-fields : (kind first limit c : ℕ) → first < 256 → limit ≤ 65536
-    → isDue kind first limit c ≡ eqb (c / 2 ^ 24) kind && (eqb (c / 2 ^ 16 % 256) first && ltb (c % 2 ^ 16) limit)
+pub due-fields : DueByFields
 unfolding isDue word
 due-fields kind first limit c f l = go (leb (word kind first 0) c) (ltb c (word kind first limit)) refl refl
   where

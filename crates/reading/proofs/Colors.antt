@@ -19,7 +19,7 @@ use Rattle.literals.proofs.Widths.{step-bits-least, step-bits-most}
 use Rattle.emit.specs.Colors.{remove, cacheWords, untaken, colorWords}
 use Rattle.emit.proofs.Remove.{length-remove}
 use Rattle.emit.proofs.Untaken.{untaken-none, levels-untaken}
-use Rattle.reader.specs.Reader.{got, after}
+use Rattle.reader.specs.Reader.{got}
 use Rattle.read_colors.specs.Colors.{insert, readBit, readCache, readSteps, readMore, readLiterals, readSized, readColors}
 use Rattle.reader.proofs.Words.{due-word, bit-below, bit-eqb}
 use Rattle.read_colors.proofs.Inserted.{length-insert}

@@ -135,10 +135,13 @@ read-of-list w h bd cache p cells lines g k a =
     ) refl
 
 pub exactly-same : ReadExactlySame
-exactly-same w h bd cache p q cells lines ws vs r s =
+exactly-same w h bd cache p q cells lines cells′ lines′ ws vs r s =
     let a = list-of-read w h bd cache p cells lines ws r in
-    let b = list-of-read w h bd cache q cells lines vs s in
-    (λ e. back-same p q (sym r ∙ ap (reading w h bd cache cells lines) e ∙ s), λ e. a .1 ∙ ap (callList w h bd cache) e ∙ sym (b .1))
+    let b = list-of-read w h bd cache q cells′ lines′ vs s in
+    let both : List ℕ → Got Palette = λ l. readPalette w h bd cache (l ++ []) in (
+      λ e. got-same p q (sym (read-back w h bd cache p [] (a .0)) ∙ ap both (sym (a .1) ∙ e ∙ b .1) ∙ read-back w h bd cache q [] (b .0)),
+      λ e. a .1 ∙ ap (callList w h bd cache) e ∙ sym (b .1),
+    )
   where
-    back-same : (x y : Palette) → back x ≡ back y → x ≡ y
-    back-same x y e = cc
+    got-same : (x y : Palette) → _≡_ {A = Got Palette} (got x []) (got y []) → x ≡ y
+    got-same x y e = cc

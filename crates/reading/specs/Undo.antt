@@ -23,5 +23,5 @@ ReadIsListed =
 -- no two palettes share a list for readers either: lists that are both read are equal exactly when their palettes are the same
 abbrev pub ReadExactlySame : Type 0
 ReadExactlySame =
-    (w h bd : ℕ) (cache : List ℕ) (p q : Palette) (cells lines : ℕ) (ws vs : List ℕ) → reading w h bd cache cells lines ws ≡ back p
-    → reading w h bd cache cells lines vs ≡ back q → (ws ≡ vs) ↔ (p ≡ q)
+    (w h bd : ℕ) (cache : List ℕ) (p q : Palette) (cells lines cells′ lines′ : ℕ) (ws vs : List ℕ)
+    → reading w h bd cache cells lines ws ≡ back p → reading w h bd cache cells′ lines′ vs ≡ back q → (ws ≡ vs) ↔ (p ≡ q)

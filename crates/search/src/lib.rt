@@ -6,7 +6,7 @@ use sizes::Size;
 ghost use mathlib.Core.Path.{_≡_};
 ghost use mathlib.Core.List.{map};
 ghost use Prim.Native.Nat.{_*_, _≤_};
-ghost use lib.ListN.{length, take, replicate};
+ghost use lib.ListN.{length, replicate};
 ghost use lib.Ieee.{binary32};
 ghost use Rattle.ieee.specs.Numbers.{nat};
 ghost use Rattle.context.specs.Map.{linesOf};

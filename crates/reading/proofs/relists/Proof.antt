@@ -21,7 +21,7 @@ returns c =
     let l = c .before .before .before .before .list in
     relists-not (b .width) (b .height) (b .bd) (a .cache .now) (paletteOf (b .colors) (b .n) (b .transposed) (a .map .now) (a .flags .now))
     (a .aside .now) _ (l .result) (l .ensures) (s .pre)
-    (a .words .now) (c .if1 .taken)
+    (a .words .now) (λ e. omega (arith, e, c .if1 .taken))
 
 same-words-requires : tie.Need-same-words-requires
 same-words-requires c κs =

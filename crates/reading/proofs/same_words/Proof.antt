@@ -40,7 +40,7 @@ returns-2 : tie.Need-returns-2 Inv-loop μ-loop
 returns-2 c =
     let a = c .before .before .before .before .before .before .args in
     let l = c .before .before .before .before .loop in
-    same-apart _ _ _ _ (c .if2 .taken) ∙ sym (same-split (a .aside .now) (a .words .now) (a .count) (l .i)
+    same-apart _ _ _ _ (λ e. omega (arith, e, c .if2 .taken)) ∙ sym (same-split (a .aside .now) (a .words .now) (a .count) (l .i)
     (c .before .before .before .before .before .before .pre) (c .before .before .before .before .before .if1 .left)
     (c .before .before .before .loop-test .taken)) ∙ l .inv .1
 
