@@ -5,3 +5,4 @@ pub mod Elem
 pub mod Rest
 pub mod Written
 pub mod Zeros
+pub mod Same

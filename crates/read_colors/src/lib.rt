@@ -116,7 +116,7 @@ fn read_cache(words: &[u32], at: usize, cache: &[u16], n: usize) -> Held
     held
 }
 
-// How many steps are there from a level, in b bits and up to the top level.
+// How many steps there are from a level, in b bits and up to the top level.
 fn step_limit(bd: u32, b: u32, level: Level) -> u32
     requires { ⌜ (bd ≤ 12) × (b ≤ 12) × (level .0 ≤ 2 ^ bd - 1) ⌝ }
     ensures { λ r. ⌜ r ≡ min (2 ^ b) (2 ^ bd - 1 - level .0) ⌝ }

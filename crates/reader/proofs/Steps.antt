@@ -2,7 +2,7 @@
 use mathlib.Core.Path.{_≡_, refl, sym, ap, _∙_}
 use mathlib.Core.Bool.{Bool, true, false, cond, _&&_}
 use mathlib.Core.List.{List}
-use mathlib.Core.Logic.{_⊎_, inl, inr, ⊎-elim}
+use mathlib.Core.Logic.{_⊎_, ⊎-elim}
 use Prim.Native.Nat.{ℕ, zero, suc, _+_, _-_, _<_, _≤_}
 use native.Mathlib.Nat.{eq-or-lt-of-le, le-of-suc-le-suc}
 use native.Mathlib.Numerals.{add-one}
@@ -13,9 +13,8 @@ use lib.Seq.{drop-cons}
 use borrow.Author.Tests.{eq-eqb, ne-eqb, lt-ltb, le-ltb, le-leb, lt-leb, ltb-true, ltb-false, leb-true}
 use Rattle.literals.specs.Words.{word}
 use Rattle.reader.specs.Reader.{Got, got, fault, after, Reader, ret, isDue, due, readUpTo}
-use Rattle.reader.specs.Steps.{stepAt, gotBy, told, Took}
+use Rattle.reader.specs.Steps.{StepsAt, told, Took}
 use Rattle.reader.specs.declared.Place.{Place}
-use Rattle.reader.specs.declared.Step.{Step}
 use Rattle.reader.specs.declared.Step.the-variants.{Second, Ended, Wrong}
 
 -- ---- the three answers of a step
@@ -27,92 +26,70 @@ module _ (ws : List ℕ) (at kind first limit : ℕ) where
   abbrev least : ℕ
   least = word kind first 0
 
-  pub step-ended : length ws ≤ at → Ended ≡ stepAt ws at kind first limit
-  unfolding stepAt
-  step-ended h = rw (le-ltb at (length ws) h) refl
+  at-end : length ws ≤ at → due kind first limit (drop at ws) ≡ fault 20
+  unfolding due
+  at-end h = rw (drop-of-length-le ws {i = at} h) refl
 
-  pub step-below : at < length ws → c < least → Wrong ≡ stepAt ws at kind first limit
-  unfolding stepAt isDue
-  step-below h k = rw (lt-ltb at (length ws) h, lt-leb least c k) refl
+  at-word : at < length ws → due kind first limit (drop at ws) ≡ cond (isDue kind first limit c) (got (c - least) (drop (at + 1) ws)) (fault 21)
+  unfolding due
+  at-word h = rw (drop-cons ws at 0 h, ← add-one at) refl
 
-  pub step-second : at < length ws → least ≤ c → c - least < limit → Second (c - least) ≡ stepAt ws at kind first limit
-  unfolding stepAt isDue word
-  step-second h k l = rw (lt-ltb at (length ws) h, le-leb least c k, lt-ltb c (word kind first limit) (omega arith)) refl
+  pub step-ended : length ws ≤ at → StepsAt ws at kind first limit Ended
+  step-ended h = sym (at-end h)
 
-  pub step-above : at < length ws → least ≤ c → limit ≤ c - least → Wrong ≡ stepAt ws at kind first limit
-  unfolding stepAt isDue word
-  step-above h k l = rw (lt-ltb at (length ws) h, le-leb least c k, le-ltb c (word kind first limit) (omega arith)) refl
+  pub step-below : at < length ws → c < least → StepsAt ws at kind first limit Wrong
+  unfolding isDue
+  step-below h k = sym (at-word h ∙ rw (lt-leb least c k) refl)
 
--- ---- the step and the place after it
+  pub step-second : at < length ws → least ≤ c → c - least < limit → StepsAt ws at kind first limit (Second (c - least))
+  unfolding isDue word
+  step-second h k l = sym (at-word h ∙ rw (le-leb least c k, lt-ltb c (word kind first limit) (omega arith)) refl)
 
-module _ (ws : List ℕ) (at kind first limit : ℕ) where
-  -- a step at a place is the reader's step on what is left there
-  step-due : due kind first limit (drop at ws) ≡ gotBy (stepAt ws at kind first limit) (drop (at + 1) ws)
-  unfolding due stepAt
-  step-due = go (ltb at (length ws)) refl
+  pub step-above : at < length ws → least ≤ c → limit ≤ c - least → StepsAt ws at kind first limit Wrong
+  unfolding isDue word
+  step-above h k l = sym (at-word h ∙ rw (le-leb least c k, le-ltb c (word kind first limit) (omega arith)) refl)
+
+  -- ---- the step and the place after it
+
+  got-fault : {A : Type 0} (v : A) (left : List ℕ) (k : ℕ) → _≡_ {A = Got A} (got v left) (fault k) → ⊥
+  got-fault v left k e = let z : _≡_ {A = ℕ} 0 1 = cc in omega arith
+
+  -- a second field was read: the place is inside, and the field below the limit
+  step-sure : (v : ℕ) → StepsAt ws at kind first limit (Second v) → (at < length ws) × (v < limit)
+  unfolding isDue word
+  step-sure v e = go (ltb at (length ws)) refl
     where
-      x : ℕ
-      x = getD ws at 0
+      inner : at < length ws → (b d : Bool) → leb least c ≡ b → ltb c (word kind first limit) ≡ d
+          → got v (drop (at + 1) ws) ≡ cond (b && d) (got (c - least) (drop (at + 1) ws)) (fault 21) → v < limit
+      inner h true true p q f =
+          let k : v ≡ c - least = cc in
+          omega (arith, leb-true least c p, ltb-true c (word kind first limit) q)
+      inner h true false p q f = absurd (got-fault v _ 21 f)
+      inner h false d p q f = absurd (got-fault v _ 21 f)
 
-      inner : (b : Bool) → cond b (got (x - word kind first 0) (drop (at + 1) ws)) (fault 21) ≡ gotBy (cond b (Second (x - word kind first 0)) Wrong)
-          (drop (at + 1) ws)
-      inner true = refl
-      inner false = refl
+      go : (b : Bool) → ltb at (length ws) ≡ b → (at < length ws) × (v < limit)
+      go true p =
+          let h = ltb-true at (length ws) p in
+          (h, inner h (leb least c) (ltb c (word kind first limit)) refl refl (e ∙ at-word h))
+      go false p = absurd (got-fault v _ 20 (e ∙ at-end (ltb-false at (length ws) p)))
 
-      go : (b : Bool) → ltb at (length ws) ≡ b
-          → due kind first limit (drop at ws) ≡ gotBy (cond b (cond (isDue kind first limit x) (Second (x - word kind first 0)) Wrong) Ended)
-          (drop (at + 1) ws)
-      go true e = rw (drop-cons ws at 0 (ltb-true at (length ws) e), ← add-one at) (inner (isDue kind first limit x))
-      go false e = rw (drop-of-length-le ws {i = at} (ltb-false at (length ws) e)) refl
-
-  step-sure : (v : ℕ) → stepAt ws at kind first limit ≡ Second v → (at < length ws) × (v < limit)
-  unfolding stepAt isDue word
-  step-sure v = go (ltb at (length ws)) (leb (word kind first 0) x) (ltb x (word kind first limit)) refl refl refl
-    where
-      x : ℕ
-      x = getD ws at 0
-
-      differ : {s : Step} → s ≡ Second v → (s ≡ Wrong) ⊎ (s ≡ Ended) → ⊥
-      differ e = elim [ inl p ↦ (let z : _≡_ {A = ℕ} 0 1 = cc in omega arith) | inr p ↦ (let z : _≡_ {A = ℕ} 0 1 = cc in omega arith) ]
-
-      go : (a b d : Bool) → ltb at (length ws) ≡ a → leb (word kind first 0) x ≡ b → ltb x (word kind first limit) ≡ d
-          → cond a (cond (b && d) (Second (x - word kind first 0)) Wrong) Ended ≡ Second v → (at < length ws) × (v < limit)
-      go true true true p q r e =
-          let k : x - word kind first 0 ≡ v = cc in
-          (ltb-true at (length ws) p, omega (arith, leb-true (word kind first 0) x q, ltb-true x (word kind first limit) r))
-      go true true false p q r e = absurd (differ e (inl refl))
-      go true false d p q r e = absurd (differ e (inl refl))
-      go false b d p q r e = absurd (differ e (inr refl))
-
-  pub second-inside : (v : ℕ) → stepAt ws at kind first limit ≡ Second v → at < length ws
+  pub second-inside : (v : ℕ) → StepsAt ws at kind first limit (Second v) → at < length ws
   second-inside v e = step-sure v e .0
 
-  pub took-second : (v : ℕ) → stepAt ws at kind first limit ≡ Second v
+  pub took-second : (v : ℕ) → StepsAt ws at kind first limit (Second v)
       → Took ws at kind first limit (record { second = v; place = record { at = at + 1; fault = 0 } })
   unfolding told
-  took-second v e = record {
-    reads = step-due ∙ ap (λ (s : Step). gotBy s (drop (at + 1) ws)) e;
-    below = λ h. step-sure v e .1;
-    sure = λ h. step-sure v e .1;
-  }
+  took-second v e = record { reads = sym e; below = λ h. step-sure v e .1; sure = λ h. step-sure v e .1 }
 
-  pub took-ended : stepAt ws at kind first limit ≡ Ended
+  pub took-ended : StepsAt ws at kind first limit Ended
       → Took ws at kind first limit (record { second = 0; place = record { at = at; fault = 20 } })
   unfolding told
-  took-ended e = record {
-    reads = step-due ∙ ap (λ (s : Step). gotBy s (drop (at + 1) ws)) e;
-    below = λ h. h;
-    sure = λ h. absurd (omega arith);
-  }
+  took-ended e = record { reads = sym e; below = λ h. h; sure = λ h. absurd (omega arith) }
 
-  pub took-wrong : stepAt ws at kind first limit ≡ Wrong
+  pub took-wrong : StepsAt ws at kind first limit Wrong
       → Took ws at kind first limit (record { second = 0; place = record { at = at; fault = 21 } })
   unfolding told
-  took-wrong e = record {
-    reads = step-due ∙ ap (λ (s : Step). gotBy s (drop (at + 1) ws)) e;
-    below = λ h. h;
-    sure = λ h. absurd (omega arith);
-  }
+  took-wrong e = record { reads = sym e; below = λ h. h; sure = λ h. absurd (omega arith) }
 
 -- ---- readers one after the other
 

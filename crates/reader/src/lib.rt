@@ -1,7 +1,7 @@
 // One word of a call list after the other: a reading holds the list and the place reached in it, and each step takes one word.
 ghost use mathlib.Core.Path.{_≡_};
 ghost use Prim.Native.Nat.{_<_};
-ghost use Rattle.reader.specs.Steps.{stepAt, Took};
+ghost use Rattle.reader.specs.Steps.{StepsAt, Took};
 
 // One step: the second field of the word due, or why there is none.
 pub enum Step {
@@ -10,7 +10,7 @@ pub enum Step {
     Wrong,
 }
 
-// A place reached in the list; or, with a fault other than 0, the number of the word that was not the one due.
+// A place reached in the list. A fault other than 0 is 20 or 21; the place is then of no account.
 pub struct Place {
     pub at: usize,
     pub fault: u32,
@@ -25,7 +25,7 @@ pub struct Taken {
 // One word of a kind and first field, its second field below the limit. The work of `next`, on a plain slice and a place.
 fn step_at(words: &[u32], at: usize, kind: u32, first: u32, limit: u32) -> Step
     requires { ⌜ (kind < 128) × (first < 256) ⌝ }
-    ensures { λ r. ⌜ r ≡ stepAt (now (words .entry)) at kind first limit ⌝ }
+    ensures { λ r. ⌜ StepsAt (now (words .entry)) at kind first limit r ⌝ }
 {
     if words.len() <= at {
         return Step::Ended;
@@ -51,7 +51,7 @@ pub struct Reading<'a> {
 // The step that a reading takes next.
 pub fn next<'a>(r: Reading<'a>, kind: u32, first: u32, limit: u32) -> Step
     requires { ⌜ (kind < 128) × (first < 256) ⌝ }
-    ensures { λ s. ⌜ s ≡ stepAt (now (r .entry .words)) (r .entry .at) kind first limit ⌝ }
+    ensures { λ s. ⌜ StepsAt (now (r .entry .words)) (r .entry .at) kind first limit s ⌝ }
 {
     step_at(r.words, r.at, kind, first, limit)
 }
@@ -59,7 +59,7 @@ pub fn next<'a>(r: Reading<'a>, kind: u32, first: u32, limit: u32) -> Step
 // A reading at a place of the list takes its next step.
 fn step_in(words: &[u32], at: usize, kind: u32, first: u32, limit: u32) -> Step
     requires { ⌜ (kind < 128) × (first < 256) ⌝ }
-    ensures { λ r. ⌜ r ≡ stepAt (now (words .entry)) at kind first limit ⌝ }
+    ensures { λ r. ⌜ StepsAt (now (words .entry)) at kind first limit r ⌝ }
 {
     next(Reading { words, at }, kind, first, limit)
 }

@@ -153,8 +153,8 @@ module _ (b : Head) (cache ws : List ℕ) (cells lines : ℕ) (x : Headed b cach
   pub cells-room : (map₀ : List ℕ) → map₀ ≡ replicate (b .width * b .height) 0 → length map₀ ≤ cells
   cells-room map₀ e = rw (e, length-replicate {A = ℕ} (b .width * b .height) 0) (z .room)
 
-  pub marks-room : (flags₀ : List ℕ) → flags₀ ≡ replicate (scanOf (b .width) (b .height) (b .transposed) .lines) 0 → length flags₀ ≤ lines
-  marks-room flags₀ e =
+  pub lines-room : (flags₀ : List ℕ) → flags₀ ≡ replicate (scanOf (b .width) (b .height) (b .transposed) .lines) 0 → length flags₀ ≤ lines
+  lines-room flags₀ e =
       let scan = scanOf (b .width) (b .height) (b .transposed) in
       let few = lines-most (b .transposed) (b .width) (b .height) lines (lines-are (b .width) (b .height) (b .transposed) .0)
       (omega (arith, z .rows)) (omega (arith, z .rows)) in

@@ -25,7 +25,7 @@ use Rattle.reader.specs.Reader.{Got, got, fault, Reader, _>>=_, ret, due}
 use Rattle.read_colors.specs.Colors.{readColors}
 use Rattle.reading.specs.Reading.{readOrient, readPalette, relists, back, refused, judge, limits, reading}
 use Rattle.reading.specs.Undo.{ListedIsRead, ReadIsListed, ReadExactlySame}
-use Rattle.reading.proofs.Relisted.{same-is, same-refl}
+use Rattle.lists.proofs.Same.{same-is, same-refl}
 use Rattle.reader.proofs.Words.{bit-below, bit-eqb}
 use Rattle.reading.proofs.Colors.{colors-read}
 use Rattle.reader.proofs.Takes.{Takes, done, one, then, last}

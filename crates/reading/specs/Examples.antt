@@ -1,9 +1,10 @@
--- The smallest lists of each number, for a 1 by 1 block of depth 8 with the cache 20, and where the readings of L2 differ. One claim.
+-- The smallest lists of each number, for a 1 by 1 block of depth 8, and where the readings of L2 differ. One claim.
 use Prim.Native.Nat.{ℕ}
 use mathlib.Core.Path.{_≡_, refl}
 use mathlib.Core.Bool.{false}
 use mathlib.Core.List.{List, [], _∷_, map}
 use Rattle.lists.specs.Counted.{upTo, allBelow, allIn, elem, above, ascending}
+use Rattle.lists.specs.Same.{sameList}
 use Rattle.counts.specs.Counts.{leastBits, ceilLog2}
 use Rattle.context.specs.Map.{cell, lineCell}
 use Rattle.context.specs.Order.{choose, byThree, around, others, orderOf, place, rankOf}
@@ -17,7 +18,7 @@ use Rattle.listing.specs.Listing.{callList}
 use Rattle.reader.specs.Reader.{isDue, due, readUpTo}
 use Rattle.read_colors.specs.Colors.{insert, readBit, readCache, readSteps, readMore, readLiterals, readSized, readColors}
 use Rattle.read_map.specs.Map.{readRanked, readIndex, readCell, readCells, readLine, readLines}
-use Rattle.reading.specs.Reading.{readOrient, readPalette, sameList, relists, Outcome, back, refused, judge, limits, reading}
+use Rattle.reading.specs.Reading.{readOrient, readPalette, relists, Outcome, back, refused, judge, limits, reading}
 
 -- orientation, flag and cell of the 1 by 1 block
 abbrev rest : List ℕ
@@ -47,9 +48,10 @@ tried =
     -- 22: a word left over; before 23, which it would be without that word
     ∷ (((20 ∷ 20 ∷ []), word 3 0 0 ∷ bypass 1 1 ∷ bypass 1 1 ∷ bypass 1 0 ∷ word 4 3 0 ∷ word 2 2 1 ∷ 0 ∷ []), refused 22)
     ∷ (((20 ∷ []), sound (bypass 1 0 ∷ word 4 3 0 ∷ word 2 2 1 ∷ 0 ∷ [])), refused 22)
-    -- 23: a bit 0 for a colour; a second 1 for it, which counts as a colour taken; a literal that the cache took;
-    -- an entry above the top level; more bits than the steps need
+    -- 23: a bit 0 for a colour; 0 first and 1 at its repeat; a second 1 for it, which counts as a colour taken; a literal that
+    -- the cache took; an entry above the top level; more bits than the steps need
     ∷ (((20 ∷ []), word 3 0 0 ∷ bypass 1 0 ∷ bypass 8 10 ∷ bypass 2 0 ∷ bypass 5 9 ∷ rest), refused 23)
+    ∷ (((20 ∷ 20 ∷ []), word 3 0 0 ∷ bypass 1 0 ∷ bypass 1 1 ∷ bypass 8 10 ∷ rest), refused 23)
     ∷ (((20 ∷ 20 ∷ []), word 3 0 0 ∷ bypass 1 1 ∷ bypass 1 1 ∷ rest), refused 23)
     ∷ (((20 ∷ []), word 3 0 0 ∷ bypass 1 1 ∷ bypass 8 20 ∷ rest), refused 23)
     ∷ (((300 ∷ []), word 3 0 0 ∷ bypass 1 1 ∷ bypass 8 20 ∷ rest), refused 23)

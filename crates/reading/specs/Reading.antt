@@ -1,12 +1,13 @@
 -- Document 02, L2: a call list read back, and what `read` answers.
 use Prim.Native.Nat.{ℕ, _*_}
 use mathlib.Core.Path.{_≡_}
-use mathlib.Core.Bool.{Bool, true, false, cond, not, _&&_}
+use mathlib.Core.Bool.{Bool, false, cond, not, _&&_}
 use mathlib.Core.List.{List, [], _∷_}
 use lib.Dec.{eqb}
 use lib.ListN.{length, replicate}
 use lib.Ieee.{binary32, ofBits}
 use Rattle.lists.specs.Written.{front}
+use Rattle.lists.specs.Same.{sameList}
 use Rattle.counts.specs.Counts.{orientSent}
 use Rattle.scan.specs.Scan.{scanOf}
 use Rattle.accept.specs.Palette as rules
@@ -34,12 +35,6 @@ readPalette w h bd cache =
     >>= λ cs. readOrient w h
     >>= λ t. readLines (length cs) (scanOf w h t) (noLines w h t)
     >>= λ s. ret (record { colors = cs; transposed = t; flags = s .flags; map = s .map })
-
-unfoldable pub sameList : List ℕ → List ℕ → Bool
-sameList [] [] = true
-sameList [] (y ∷ ys) = false
-sameList (x ∷ xs) [] = false
-sameList (x ∷ xs) (y ∷ ys) = eqb x y && sameList xs ys
 
 -- the listing accepts the palette, and would write that list
 unfoldable pub relists : ℕ → ℕ → ℕ → List ℕ → rules.Palette → List ℕ → Bool

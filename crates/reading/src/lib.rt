@@ -7,10 +7,11 @@ ghost use mathlib.Core.Path.{_≡_};
 ghost use Prim.Native.Nat.{_*_, _≤_};
 ghost use lib.Dec.{eqb};
 ghost use lib.ListN.{length, take, drop, replicate};
+ghost use Rattle.lists.specs.Same.{sameList};
 ghost use Rattle.scan.specs.Scan.{scanOf};
 ghost use Rattle.accept.specs.Palette.{paletteOf};
 ghost use Rattle.reader.specs.Steps.{told};
-ghost use Rattle.reading.specs.Reading.{readOrient, sameList, relists, limits, reading, Reads};
+ghost use Rattle.reading.specs.Reading.{readOrient, relists, limits, reading, Reads};
 ghost use Rattle.reading.specs.Steps.{Headed};
 
 // What is known ahead of the map: the block, its colours and orientation, and the place reached in the list.
@@ -106,37 +107,37 @@ fn relists(
     same_words(aside, listed.count, words)
 }
 
-// Reads the lines behind the head, into cells and marks; what is read to its end and would be listed again is given back.
+// Reads the lines behind the head, into cells and lines; what is read to its end and would be listed again is given back.
 fn read_rest(
     b: Head,
     cache: &[u16],
     words: &[u32],
     cells: &mut [u8],
-    marks: &mut [u8],
+    lines: &mut [u8],
     aside: &mut [u32],
     map: &mut [u8],
     flags: &mut [u8],
 ) -> Palette
     requires { ⌜ Headed b (now cache) (now words) (length (now map)) (length (now flags)) ⌝ }
-    requires { ⌜ (now cells ≡ replicate (b .width * b .height) 0) × (now marks ≡ replicate (scanOf (b .width) (b .height) (b .transposed) .lines) 0)
+    requires { ⌜ (now cells ≡ replicate (b .width * b .height) 0) × (now lines ≡ replicate (scanOf (b .width) (b .height) (b .transposed) .lines) 0)
         × (4234 ≤ length (now aside)) ⌝ }
     ensures { λ r. ⌜ Reads
         (reading (b .width) (b .height) (b .bd) (now (cache .entry)) (length (now (map .entry))) (length (now (flags .entry))) (now (words .entry)))
         (now (map .entry)) (now (map .exit)) (now (flags .entry)) (now (flags .exit)) r ⌝ }
 {
     let s = scan::scan_of(b.width, b.height, b.transposed);
-    let place = read_map::read_lines(words, b.at, cells, marks, s, b.n);
+    let place = read_map::read_lines(words, b.at, cells, lines, s, b.n);
     if place.fault != 0 {
         return accept::refuse(place.fault);
     }
     if place.at < words.len() {
         return accept::refuse(22);
     }
-    if !relists(b, cells, marks, cache, words, aside) {
+    if !relists(b, cells, lines, cache, words, aside) {
         return accept::refuse(23);
     }
     lists::copy_bytes(cells, cells.len(), map);
-    lists::copy_bytes(marks, marks.len(), flags);
+    lists::copy_bytes(lines, lines.len(), flags);
     let colors = b.colors;
     Palette {
         number: 0,
@@ -155,7 +156,7 @@ fn read_aside(b: Head, cache: &[u16], words: &[u32], map: &mut [u8], flags: &mut
         (now (map .entry)) (now (map .exit)) (now (flags .entry)) (now (flags .exit)) r ⌝ }
 {
     let mut cells = [0u8; 4096];
-    let mut marks = [0u8; 64];
+    let mut lines = [0u8; 64];
     let mut aside = [0u32; 4234];
     let count = context::lines_of(b.transposed, b.width, b.height);
     read_rest(
@@ -163,7 +164,7 @@ fn read_aside(b: Head, cache: &[u16], words: &[u32], map: &mut [u8], flags: &mut
         cache,
         words,
         &mut cells[..b.width * b.height],
-        &mut marks[..count],
+        &mut lines[..count],
         &mut aside,
         map,
         flags,

@@ -1,8 +1,5 @@
-use mathlib.Core.Path.{ap, _∙_}
-use Prim.Native.Nat.{ℕ, _-_}
+use Prim.Native.Nat.{_-_}
 use native.Mathlib.Omega.{arith}
-use lib.ListN.{getD}
-use Rattle.reader.specs.declared.Step.the-variants.{Second}
 use Rattle.reader.proofs.Steps.{step-ended, step-below, step-second, step-above}
 use borrow.Author.Needs.{needs}
 use Rattle.reader.proofs.step_at.Statement.{statement}
@@ -25,10 +22,10 @@ returns-2 c = step-below _ _ _ _ _ (c .before .before .before .if1 .left) (omega
 
 returns-3 : tie.Need-returns-3
 returns-3 c =
-    let s = c .before .before .before .before .before .before .args in
-    ap (λ (k : ℕ). Second (getD (s .words .now) (s .at) 0 - k)) (c .before .before .call .ensures)
-    ∙ step-second _ _ _ _ _ (c .before .before .before .before .if1 .left) (omega (arith, c .before .if2 .left, c .before .before .call .ensures))
-    (omega (arith, c .if3 .taken, c .before .before .call .ensures))
+    let least = c .before .before .call .ensures in
+    rw least
+    (step-second _ _ _ _ _ (c .before .before .before .before .if1 .left) (omega (arith, c .before .if2 .left, least))
+    (omega (arith, c .if3 .taken, least)))
 
 returns-4 : tie.Need-returns-4
 returns-4 c = step-above _ _ _ _ _ (c .before .before .before .before .if1 .left)

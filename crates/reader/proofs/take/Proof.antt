@@ -1,4 +1,3 @@
-use mathlib.Core.Path.{sym, _∙_}
 use native.Mathlib.Omega.{arith}
 use Rattle.reader.proofs.Steps.{second-inside, took-second, took-ended, took-wrong}
 use borrow.Author.Needs.{needs}
@@ -12,7 +11,11 @@ enum-known-second : tie.Need-enum-known-second
 enum-known-second c = search needs
 
 add-taken-by : tie.Need-add-taken-by
-add-taken-by c = omega (arith, second-inside _ _ _ _ _ _ (sym (c .before .before .before .step-in .ensures) ∙ c .before .second .given .1))
+add-taken-by c =
+    let a = c .before .before .before .before .before .args in
+    let second = rw (c .before .second .given .1) at (c .before .before .before .step-in .ensures) in
+    let inside = second-inside (a .words .now) (a .at) (a .kind) (a .first) (a .limit) _ second in
+    omega (arith, inside)
 
 taken-by-requires : tie.Need-taken-by-requires
 taken-by-requires c κs = search needs
@@ -30,14 +33,13 @@ taken-by-requires-3 : tie.Need-taken-by-requires-3
 taken-by-requires-3 c κs = search needs
 
 returns : tie.Need-returns
-returns c = rw (c .taken-by .ensures) (took-second _ _ _ _ _ _ (sym (c .before .before .before .before .step-in .ensures)
-    ∙ c .before .before .second .given .1))
+returns c = rw (c .taken-by .ensures) (took-second _ _ _ _ _ _ (rw (c .before .before .second .given .1) at (c .before .before .before .before .step-in .ensures)))
 
 returns-2 : tie.Need-returns-2
-returns-2 c = rw (c .taken-by2 .ensures) (took-ended _ _ _ _ _ (sym (c .before .before .before .step-in .ensures) ∙ c .before .enum-told .given .1))
+returns-2 c = rw (c .taken-by2 .ensures) (took-ended _ _ _ _ _ (rw (c .before .enum-told .given .1) at (c .before .before .before .step-in .ensures)))
 
 returns-3 : tie.Need-returns-3
-returns-3 c = rw (c .taken-by3 .ensures) (took-wrong _ _ _ _ _ (sym (c .before .before .before .step-in .ensures) ∙ c .before .enum-told2 .given .1))
+returns-3 c = rw (c .taken-by3 .ensures) (took-wrong _ _ _ _ _ (rw (c .before .enum-told2 .given .1) at (c .before .before .before .step-in .ensures)))
 
 pub take-spec : {M : Type 1} → statement M
 take-spec =

@@ -15,8 +15,8 @@ use Rattle.reading.proofs.read_aside.Tie as tie
 cells-few : (s : tie.Start) → s .args .b .width * s .args .b .height ≤ 4096
 cells-few s = let z = sizes _ _ _ _ _ _ (s .pre .passed) in mul-le-mul (z .sides .0 .1) (z .sides .1 .1)
 
-marks-few : (c : tie.After-lines-of) → c .lines-of .result ≤ 64
-marks-few c =
+lines-few : (c : tie.After-lines-of) → c .lines-of .result ≤ 64
+lines-few c =
     let s = c .before .before .before .before .before in
     let b = s .args .b in
     let z = sizes _ _ _ _ _ _ (s .pre .passed) in
@@ -34,11 +34,11 @@ array-borrow-prefix-cells c = cells-few (c .before .before .before .before .befo
 slice-aggregate-read-rest : tie.Need-slice-aggregate-read-rest
 slice-aggregate-read-rest c = sym (length-take-le {A = ℕ} _ (replicate 4096 0) (cells-few (c .before .before .before .before .before .before .before)))
 
-array-borrow-prefix-marks : tie.Need-array-borrow-prefix-marks
-array-borrow-prefix-marks c = marks-few (c .before .before)
+array-borrow-prefix-lines : tie.Need-array-borrow-prefix-lines
+array-borrow-prefix-lines c = lines-few (c .before .before)
 
 slice-aggregate-read-rest-2 : tie.Need-slice-aggregate-read-rest-2
-slice-aggregate-read-rest-2 c = sym (length-take-le {A = ℕ} _ (replicate 64 0) (marks-few (c .before .before .before)))
+slice-aggregate-read-rest-2 c = sym (length-take-le {A = ℕ} _ (replicate 64 0) (lines-few (c .before .before .before)))
 
 slice-aggregate-read-rest-3 : tie.Need-slice-aggregate-read-rest-3
 slice-aggregate-read-rest-3 c = search needs
@@ -53,7 +53,7 @@ read-rest-requires c κs =
       s .pre,
       (
         take-zeros _ 4096 (cells-few s),
-        take-zeros _ 64 (marks-few l) ∙ ap (λ k. replicate {A = ℕ} k 0) count,
+        take-zeros _ 64 (lines-few l) ∙ ap (λ k. replicate {A = ℕ} k 0) count,
         omega (arith, length-replicate {A = ℕ} 4234 0),
       ),
     )
@@ -75,7 +75,7 @@ read-aside-spec =
     mul-cells
     array-borrow-prefix-cells
     slice-aggregate-read-rest
-    array-borrow-prefix-marks
+    array-borrow-prefix-lines
     slice-aggregate-read-rest-2
     slice-aggregate-read-rest-3
     read-rest-requires

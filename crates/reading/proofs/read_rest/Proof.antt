@@ -7,7 +7,7 @@ use borrow.Author.Tests.{not-true, not-false}
 use Rattle.reader.specs.Steps.{told}
 use Rattle.reading.specs.Reading.{readPalette}
 use Rattle.reading.proofs.Answers.{reads-refused, reads-back, settled-fault, settled-more, settled-other, settled-back, copied}
-use Rattle.reading.proofs.Ahead.{made, lines-ready, cells-room, marks-room, palette-told, answer-is}
+use Rattle.reading.proofs.Ahead.{made, lines-ready, cells-room, lines-room, palette-told, answer-is}
 use Rattle.reading.proofs.read_rest.Statement.{statement}
 use Rattle.reading.proofs.read_rest.Tie as tie
 
@@ -33,14 +33,14 @@ cells-fit r =
           (length (s .args .flags .now)) (s .pre .0) _ (s .pre .1 .0),
     )
 
-marks-fit : (r : tie.After-read-lines) → length (r .read-lines .last .1 .1 .1 .0) ≤ length
+lines-fit : (r : tie.After-read-lines) → length (r .read-lines .last .1 .1 .1 .0) ≤ length
     (r .before .before .before .before .before .before .before .before .before .before .before .args .flags .now)
-marks-fit r =
+lines-fit r =
     let s = r .before .before .before .before .before .before .before .before .before .before .before in
     omega (
       arith,
       r .read-lines .kept .1 .1 .1 .0,
-      marks-room (s .args .b) (s .args .cache .now) (s .args .words .now) (length (s .args .map .now))
+      lines-room (s .args .b) (s .args .cache .now) (s .args .words .now) (length (s .args .map .now))
           (length (s .args .flags .now)) (s .pre .0) _ (s .pre .1 .1),
     )
 
@@ -131,7 +131,7 @@ copy-bytes-requires-2 : tie.Need-copy-bytes-requires-2
 copy-bytes-requires-2 c κs =
     let far = c .before .before .before .before .before .before .before .before .before .before in (
       omega arith,
-      marks-fit
+      lines-fit
           (far .before .before .before .before .before .before .before .before .before .before .before .before),
     )
 
@@ -165,7 +165,7 @@ returns-4 c =
     (answer-is (s .args .b) (s .args .cache .now) (s .args .words .now) (length (s .args .map .now)) (length (s .args .flags .now)) (s .pre .0)
     (r .read-lines .last .1 .1 .0) (r .read-lines .last .1 .1 .1 .0))
     (copied _ _ _ (c .before .before .before .before .before .before .before .before .copy-bytes .ensures) (cells-fit r))
-    (copied _ _ _ (c .before .before .before .copy-bytes2 .ensures) (marks-fit r))
+    (copied _ _ _ (c .before .before .before .copy-bytes2 .ensures) (lines-fit r))
 
 pub read-rest-spec : {M : Type 1} → statement M
 read-rest-spec =

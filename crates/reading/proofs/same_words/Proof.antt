@@ -4,8 +4,8 @@ use native.Mathlib.Omega.{arith}
 use borrow.Author.Needs.{needs}
 use lib.ListN.{take, drop}
 use lib.Seq.{length-take-le}
-use Rattle.reading.specs.Reading.{sameList}
-use Rattle.reading.proofs.Relisted.{same-none, same-apart, same-next, same-split, same-end}
+use Rattle.lists.specs.Same.{sameList}
+use Rattle.lists.proofs.Same.{same-none, same-apart, same-next, same-split, same-end}
 use Rattle.reading.proofs.same_words.Statement.{statement}
 use Rattle.reading.proofs.same_words.Tie as tie
 
