@@ -3,36 +3,10 @@
 mod common;
 
 use common::decode::decode;
-use common::{cases, word, Random, BYTE};
-use palette_station::{list, read, read_into, Colors, Palette, Refusal, MAX_WORDS};
+use common::kept::Kept;
+use common::{cases, word, Random};
+use palette_station::{list, read, Colors, Palette, Refusal, MAX_WORDS};
 use std::collections::BTreeMap;
-
-/// A list with what it is read with.
-#[derive(Clone)]
-struct Kept {
-    sides: (usize, usize),
-    bd: u32,
-    words: Vec<u32>,
-    cache: Vec<u16>,
-}
-
-impl Kept {
-    /// As the package reads it, with a place more behind each room than is needed. What lies
-    /// behind what is written, and after a refusal everything, has to be as it was.
-    fn read(&self) -> Result<Palette, u32> {
-        let (width, height) = self.sides;
-        let (cells, longer) = (width * height, width.max(height));
-        let (mut map, mut flags) = (vec![BYTE; cells + 1], vec![BYTE; longer + 1]);
-        let (words, cache) = (&self.words, &self.cache);
-        let answer = read_into(width, height, self.bd, words, cache, &mut map, &mut flags);
-        let read = answer.map(|palette| palette.to_palette());
-        let written = read.as_ref().map_or((0, 0), |p| (cells, p.lines()));
-        let behind = map[written.0..].iter().chain(&flags[written.1..]);
-        assert!(behind.into_iter().all(|&byte| byte == BYTE));
-        assert_eq!(read, crate::read(width, height, self.bd, words, cache));
-        read.map_err(Refusal::number)
-    }
-}
 
 /// Lines of a map with their flags: cells, constants and copies in any order.
 fn lines(random: &mut Random, count: usize, length: usize, n: usize) -> (Vec<Vec<u8>>, Vec<u8>) {

@@ -2,52 +2,9 @@
 
 mod common;
 
-use common::{counting, word, BYTE};
-use palette_station::{list, read, read_into, Palette, Refusal, MAX_CELLS, MAX_LINES, MAX_WORDS};
-
-/// A list with what it is read with.
-#[derive(Clone, Copy)]
-struct Kept<'a> {
-    sides: (usize, usize),
-    bd: u32,
-    words: &'a [u32],
-    cache: &'a [u16],
-}
-
-impl Kept<'_> {
-    fn at(self, bd: u32) -> Self {
-        Kept { bd, ..self }
-    }
-
-    fn read(&self) -> Result<Palette, Refusal> {
-        let (width, height) = self.sides;
-        read(width, height, self.bd, self.words, self.cache)
-    }
-
-    /// The number with these rooms, and a place more behind each; what the buffers hold then.
-    fn with_rooms(&self, cells: usize, lines: usize) -> (u32, Vec<u8>, Vec<u8>) {
-        let (mut map, mut flags) = (vec![BYTE; cells + 1], vec![BYTE; lines + 1]);
-        let (width, height) = self.sides;
-        let (lent_map, lent_flags) = (&mut map[..cells], &mut flags[..lines]);
-        let read = read_into(
-            width, height, self.bd, self.words, self.cache, lent_map, lent_flags,
-        );
-        let number = read.map_or_else(Refusal::number, |_| 0);
-        (number, map, flags)
-    }
-
-    /// The number, of both functions. Nothing is written after a refusal.
-    fn number(&self) -> u32 {
-        let (number, map, flags) = self.with_rooms(MAX_CELLS, MAX_LINES);
-        assert!(number == 0 || untouched(&map) && untouched(&flags));
-        assert_eq!(self.read().map_or_else(Refusal::number, |_| 0), number);
-        number
-    }
-}
-
-fn untouched(buffer: &[u8]) -> bool {
-    buffer.iter().all(|&byte| byte == BYTE)
-}
+use common::kept::{untouched, Kept};
+use common::{counting, word};
+use palette_station::{list, Palette, MAX_WORDS};
 
 const TWO_COLORS: u32 = word(3, 0, 0);
 const TAKEN: u32 = word(1, 1, 1);
@@ -58,16 +15,27 @@ const CONSTANT: [u32; 2] = [word(4, 3, 1), word(2, 2, 0)];
 /// The shortest list that there is: two colours of the cache, one line, one index.
 const SHORTEST: [u32; 5] = [TWO_COLORS, TAKEN, TAKEN, CONSTANT[0], CONSTANT[1]];
 
-fn line<'a>(words: &'a [u32], cache: &'a [u16]) -> Kept<'a> {
+fn line(words: &[u32], cache: &[u16]) -> Kept {
     at_8_bits((64, 1), words, cache)
 }
 
-fn at_8_bits<'a>(sides: (usize, usize), words: &'a [u32], cache: &'a [u16]) -> Kept<'a> {
+fn at_8_bits(sides: (usize, usize), words: &[u32], cache: &[u16]) -> Kept {
     Kept {
         sides,
         bd: 8,
-        words,
-        cache,
+        words: words.to_vec(),
+        cache: cache.to_vec(),
+    }
+}
+
+fn at_bits(bd: u32, kept: &Kept) -> Kept {
+    Kept { bd, ..kept.clone() }
+}
+
+fn with_sides(sides: (usize, usize), kept: &Kept) -> Kept {
+    Kept {
+        sides,
+        ..kept.clone()
     }
 }
 
@@ -83,17 +51,16 @@ fn the_shortest_list() {
 #[test]
 fn the_smallest_list_of_each_number() {
     let none = line(&[], &[]);
-    let number = |sides, bd| Kept { sides, bd, ..none }.number();
     for sides in [(0, 1), (1, 0), (65, 1), (1, 65), (usize::MAX, usize::MAX)] {
-        assert_eq!(number(sides, 8), 1);
+        assert_eq!(with_sides(sides, &none).number(), 1);
     }
     for bd in [0, 7, 13, 40, u32::MAX] {
-        assert_eq!(number((1, 1), bd), 2);
+        assert_eq!(at_bits(bd, &none).number(), 2);
     }
     assert_eq!(line(&[], &[0; 65]).number(), 13);
     assert_eq!(line(&[], &[0; 64]).number(), 20);
-    assert_eq!(none.with_rooms(63, 64).0, 7);
-    assert_eq!(none.with_rooms(64, 63).0, 7);
+    assert_eq!(none.with_rooms(63, 64).0, Err(7));
+    assert_eq!(none.with_rooms(64, 63).0, Err(7));
     assert_eq!(none.number(), 20);
     assert_eq!(line(&[0], &[]).number(), 21);
     let longer = [&SHORTEST[..], &[0]].concat();
@@ -109,14 +76,14 @@ fn tests_come_in_their_order() {
     words[4] = 0;
     let mut kept = line(&words, &[0; 65]);
     (kept.sides, kept.bd) = ((65, 1), 13);
-    assert_eq!(kept.with_rooms(0, 0).0, 1);
+    assert_eq!(kept.with_rooms(0, 0).0, Err(1));
     kept.sides = (64, 1);
-    assert_eq!(kept.with_rooms(0, 0).0, 2);
+    assert_eq!(kept.with_rooms(0, 0).0, Err(2));
     kept.bd = 8;
-    assert_eq!(kept.with_rooms(0, 0).0, 13);
-    kept.cache = &[0, 0];
-    assert_eq!(kept.with_rooms(0, 0).0, 7);
-    assert_eq!(kept.with_rooms(64, 64).0, 21);
+    assert_eq!(kept.with_rooms(0, 0).0, Err(13));
+    kept.cache = vec![0, 0];
+    assert_eq!(kept.with_rooms(0, 0).0, Err(7));
+    assert_eq!(kept.with_rooms(64, 64).0, Err(21));
     assert_eq!(line(&words[..4], &[0, 0]).number(), 20);
     words[4] = SHORTEST[4];
     assert_eq!(line(&words, &[0, 0]).number(), 22);
@@ -140,16 +107,16 @@ fn rooms_exact_and_longer() {
         let words = list(&palette, &[]).unwrap().words;
         let kept = at_8_bits((5, 3), &words, &[]);
         for more in [0, 1, 80] {
-            let (number, map, flags) = kept.with_rooms(15 + more, 5 + more);
-            assert_eq!(number, 0);
+            let (read, [map, flags]) = kept.with_rooms(15 + more, 5 + more);
+            assert_eq!(read.as_ref(), Ok(&palette));
             assert_eq!(map[..15], palette.map);
             assert!(untouched(&map[15..]));
             assert_eq!(flags[..palette.lines()], palette.flags);
             assert!(untouched(&flags[palette.lines()..]));
         }
         for (cells, lines) in [(14, 5), (15, 4), (15, 3), (0, 5), (15, 0), (0, 0)] {
-            let (number, map, flags) = kept.with_rooms(cells, lines);
-            assert_eq!(number, 7, "{cells} cells, {lines} flags");
+            let (read, [map, flags]) = kept.with_rooms(cells, lines);
+            assert_eq!(read, Err(7), "{cells} cells, {lines} flags");
             assert!(untouched(&map) && untouched(&flags));
         }
     }
@@ -201,7 +168,7 @@ fn words_that_are_not_due() {
 /// Colours sent as literals, for the map above.
 fn sent(bd: u32, colors: &[u32]) -> u32 {
     let words = [&[TWO_COLORS], colors, &CONSTANT].concat();
-    line(&words, &[]).at(bd).number()
+    at_bits(bd, &line(&words, &[])).number()
 }
 
 #[test]
@@ -215,7 +182,7 @@ fn levels_past_the_top() {
         assert_eq!(sent(bd, &colors(top, 0)), 21);
         assert_eq!(sent(bd, &colors(top + 1, 0)), 21);
         let words = [&[TWO_COLORS], &colors(top, 0)[..2]].concat();
-        assert_eq!(line(&words, &[]).at(bd).number(), 20);
+        assert_eq!(at_bits(bd, &line(&words, &[])).number(), 20);
     }
 }
 
@@ -235,10 +202,10 @@ fn a_step_of_no_bits() {
 /// The number of two colours by these words, the first ones cache bits.
 fn colors_number(bd: u32, cache: &[u16], colors: &[u32]) -> u32 {
     let mut words = [&[TWO_COLORS], colors, &CONSTANT].concat();
-    let number = line(&words, cache).at(bd).number();
+    let number = at_bits(bd, &line(&words, cache)).number();
     words.push(0);
     // Words left over come before what the listing would not write.
-    assert_eq!(line(&words, cache).at(bd).number(), 22);
+    assert_eq!(at_bits(bd, &line(&words, cache)).number(), 22);
     number
 }
 

@@ -2,6 +2,7 @@
 #![allow(dead_code)]
 
 pub mod decode;
+pub mod kept;
 pub mod page;
 
 use palette_station::{Block, Colors, Palette};
