@@ -69,6 +69,21 @@ fn the_smallest_list_of_each_number() {
     assert_eq!(line(&SHORTEST, &[0, 1]).number(), 0);
 }
 
+/// Sides and depths that would be right if they were cut to fewer bits.
+#[test]
+fn numbers_are_not_cut() {
+    let words = list(&Palette::example(), &[]).unwrap().words;
+    let kept = at_8_bits((4, 2), &words, &[]);
+    assert_eq!(kept.number(), 0);
+    for more in [64, 128, 1 << 8, 1 << 16, 1 << 32, 1 << 63] {
+        assert_eq!(with_sides((4 + more, 2), &kept).number(), 1, "{more}");
+        assert_eq!(with_sides((4, 2 + more), &kept).number(), 1, "{more}");
+    }
+    for more in [1 << 4, 1 << 8, 1 << 16, 1 << 31] {
+        assert_eq!(at_bits(8 + more, &kept).number(), 2, "{more}");
+    }
+}
+
 #[test]
 fn tests_come_in_their_order() {
     // Everything is wrong; what is named is mended, and the next number shows.
@@ -119,6 +134,20 @@ fn rooms_exact_and_longer() {
             assert_eq!(read, Err(7), "{cells} cells, {lines} flags");
             assert!(untouched(&map) && untouched(&flags));
         }
+    }
+}
+
+/// The smallest block, with no room at all.
+#[test]
+fn empty_rooms() {
+    let palette = counting(1, 1, 2);
+    let words = list(&palette, &[]).unwrap().words;
+    let kept = at_8_bits((1, 1), &words, &[]);
+    assert_eq!(kept.with_rooms(1, 1).0, Ok(palette));
+    for (cells, lines) in [(0, 1), (1, 0), (0, 0)] {
+        let (read, [map, flags]) = kept.with_rooms(cells, lines);
+        assert_eq!(read, Err(7), "{cells} cells, {lines} flags");
+        assert!(untouched(&map) && untouched(&flags));
     }
 }
 
