@@ -98,6 +98,20 @@ fn reading_1_2_7_13_and_20_to_23() {
     assert_eq!(read_number(&[16], |words| words.insert(1, 0x0101_0000)), 23);
 }
 
+/// In document 02's words. Two meanings exchanged would still be of their own each.
+#[test]
+fn meanings_of_20_to_23() {
+    let shown = [20, 21, 22, 23].map(|number| Refusal::from_number(number).unwrap().to_string());
+    let due = [
+        "refused by 20: the list ends where a word is due",
+        "refused by 21: a word whose kind or first field is not the one due, \
+         or whose second is beyond its range",
+        "refused by 22: words left over behind the list",
+        "refused by 23: a list that reads to its end but that the listing would not write",
+    ];
+    assert_eq!(shown, due);
+}
+
 /// Only the listing program gives 17.
 #[test]
 fn text_17() {
