@@ -252,6 +252,7 @@ fn lists_and_predictions() {
     }
 }
 
+/// Reading has no floats today. This guards against some that come in later.
 #[test]
 fn lists_read_back() {
     let cache: Vec<u16> = (0..64).collect();
