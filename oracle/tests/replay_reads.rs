@@ -1,8 +1,8 @@
 //! The lists of the crate `replay_reads` are of every kind, and its files hold what is due.
 
 use palette_oracle::generate::crafted::Craft;
-use palette_oracle::generate::reads::ReadDamage;
-use palette_oracle::reading::{read_words, unlisted, Unlisted};
+use palette_oracle::generate::reads::{DamagedKinds, ReadDamage};
+use palette_oracle::reading::{read, read_words, unlisted, ReadRequest, Unlisted};
 use palette_oracle::replay_reads::{bytes, line, replayed_reads, ReplayedRead};
 use palette_oracle::Palette;
 use std::collections::BTreeSet;
@@ -81,6 +81,24 @@ fn every_damage_craft_and_rule_is_met() {
     for rule in Unlisted::ALL {
         assert!(all.iter().any(|r| broken(r) == [*rule]), "{}", rule.name());
     }
+}
+
+/// A step past the top level, a list longer than any, and sides that are right in seven bits.
+#[test]
+fn rare_kinds_are_met() {
+    let all = all();
+    let some = |number, holds: &dyn Fn(&ReplayedRead) -> bool| {
+        all.iter().any(|r| r.answer == Err(number) && holds(r))
+    };
+    let past_top = |k: &DamagedKinds| k.craft == Some(Craft::PastTop) && k.damages.is_empty();
+    assert!(some(21, &|r| r.kinds.as_ref().is_some_and(past_top)));
+    assert!(some(22, &|r| r.request.words.len() > 4234));
+    let cut = |r: &ReplayedRead| ReadRequest {
+        w: r.request.w % 128,
+        h: r.request.h % 128,
+        ..r.request.clone()
+    };
+    assert!(some(1, &|r| read(&cut(r)).is_ok()));
 }
 
 #[test]

@@ -3,7 +3,7 @@
 use super::caches::{cache_of, CacheKind, LONGEST};
 use super::random::Random;
 use crate::check::{ceil_log2, step_width, top};
-use crate::original::{list, pack, Palette};
+use crate::original::{list, pack, unpack, Palette};
 
 kinds! {
     /// What is sent otherwise. Now and then a crafted list is sound all the same.
@@ -24,6 +24,8 @@ kinds! {
         AnyBits = "any-bits",
         /// The top level is reached with steps still due, so that no value is right for the next.
         TopReached = "top-reached",
+        /// The last step leads past the top level, by a value that its width can hold.
+        PastTop = "past-top",
     }
 }
 
@@ -59,6 +61,7 @@ pub fn crafted(random: &mut Random, kind: Craft, palette: &Palette) -> (Vec<u16>
     match kind {
         Craft::LiteralTaken => send_again(random, &mut sent),
         Craft::TopReached => reach_top(random, &mut sent),
+        Craft::PastTop => end_at_top(random, &mut sent),
         _ => {}
     }
     let width = match kind {
@@ -66,6 +69,9 @@ pub fn crafted(random: &mut Random, kind: Craft, palette: &Palette) -> (Vec<u16>
         _ => step_width(&sent.literals, sent.bd),
     };
     let mut words = color_words(&sent, width);
+    if kind == Craft::PastTop {
+        pass_top(random, &sent, &mut words);
+    }
     if sent.literals.len() == sent.due() || random.one_in(2) {
         words.extend(map_words(palette));
     } else {
@@ -91,10 +97,15 @@ fn crafted_cache(random: &mut Random, aim: Aim, palette: &Palette) -> Vec<u16> {
             let most = random.pick(&[least, 65_535]);
             vec![random.between(least, most) as u16]
         }
-        Craft::StepWidth | Craft::AnyBits | Craft::TopReached => vec![],
+        Craft::StepWidth | Craft::AnyBits | Craft::TopReached | Craft::PastTop => vec![],
     };
     let mut cache = cache_of(random, drawn, palette);
-    cache.truncate(LONGEST - wanted.len());
+    let most = match aim.kind {
+        // A step is sent only where two colours are not taken.
+        Craft::PastTop => random.below(6),
+        _ => LONGEST - wanted.len(),
+    };
+    cache.truncate(most);
     for entry in wanted {
         let at = random.below(cache.len().min(4) + 1);
         cache.insert(at, entry);
@@ -166,6 +177,38 @@ fn reach_top(random: &mut Random, sent: &mut Sent) {
         sent.literals.truncate(random.between(1, sent.due() - 1));
         *sent.literals.last_mut().expect("one is left") = top(sent.bd) as u16;
     }
+}
+
+/// The last literal becomes the top level. The range before it is no power of two, or small beside
+/// the least width: so values beyond it fit the last step's width.
+fn end_at_top(random: &mut Random, sent: &mut Sent) {
+    let (top, count) = (top(sent.bd) as usize, sent.literals.len());
+    if count < 2 {
+        return;
+    }
+    let most = random.pick(&[2, 8, top - 8]);
+    let mut range = random.between(1, most);
+    if count > 2 || range >> (sent.bd - 3) > 0 {
+        range |= 3;
+    }
+    for (at, literal) in sent.literals.iter_mut().enumerate() {
+        let highest = top - range - (count - 2).saturating_sub(at);
+        *literal = (*literal).min(highest as u16);
+    }
+    sent.literals[count - 2] = (top - range) as u16;
+    sent.literals[count - 1] = top as u16;
+}
+
+/// The last step goes past the top level that it led to; now and then it stays.
+fn pass_top(random: &mut Random, sent: &Sent, words: &mut [u32]) {
+    let ([.., before, _], [.., last]) = (&sent.literals[..], words) else {
+        return;
+    };
+    let range = top(sent.bd) - u32::from(*before);
+    let (kind, width, _) = unpack(*last);
+    let most = (1 << width) - 1;
+    let value = random.pick(&[range, range, range + 1, most, range - 1]);
+    *last = pack((kind, width, value.min(most)));
 }
 
 /// The colours' words with a given start for the width of the steps. If literals are missing, one

@@ -7,6 +7,9 @@ use super::sides::{depth, side};
 use crate::original::{pack, unpack};
 use crate::reading::ReadRequest;
 
+/// The words of the longest list that there is.
+const LONGEST_LIST: usize = 4234;
+
 kinds! {
     /// Some damages happen to do no harm.
     ReadDamage {
@@ -29,6 +32,8 @@ kinds! {
         OtherDepth = "other-depth",
         OtherCache = "other-cache",
         Side = "side",
+        /// Cut to fewer bits it would be the same again.
+        SideRaised = "side-raised",
         Depth = "depth",
         CacheLength = "cache-length",
         MapRoom = "map-room",
@@ -45,6 +50,7 @@ pub fn damage(random: &mut Random, kind: ReadDamage, request: &mut ReadRequest) 
         ReadDamage::OtherDepth => request.bd = depth(random),
         ReadDamage::OtherCache => change_cache(random, &mut request.cache),
         ReadDamage::Side => damages::damage_side(random, &mut request.w, &mut request.h),
+        ReadDamage::SideRaised => raise_side(random, request),
         ReadDamage::Depth => request.bd = damages::depth(random),
         ReadDamage::CacheLength => request.cache.resize(random.between(65, LONGEST + 8), 16),
         ReadDamage::MapRoom => request.map_room = lacking(random, cells(request)),
@@ -75,6 +81,17 @@ fn side_beside(random: &mut Random, side_before: usize) -> usize {
     }
 }
 
+/// By a power of two; all but the first two are too large for a byte.
+fn raise_side(random: &mut Random, request: &mut ReadRequest) {
+    let more = random.pick(&[64, 128, 1 << 8, 1 << 8, 1 << 16, 1 << 32, 1 << 32]);
+    let side = if random.one_in(2) {
+        &mut request.w
+    } else {
+        &mut request.h
+    };
+    *side = side.saturating_add(more);
+}
+
 /// One entry dropped, added or changed, two exchanged, or none left.
 fn change_cache(random: &mut Random, cache: &mut Vec<u16>) {
     let entry = random.between(0, 300) as u16;
@@ -97,7 +114,7 @@ fn change_cache(random: &mut Random, cache: &mut Vec<u16>) {
 /// An empty list stays so, but for what is left over.
 fn damage_words(random: &mut Random, kind: ReadDamage, words: &mut Vec<u32>) {
     if kind == ReadDamage::LeftOver {
-        let count = random.pick(&[1, 1, 1, 2, 64]);
+        let count = left_over(random, words.len());
         return words.extend((0..count).map(|_| any_word(random)));
     }
     if words.is_empty() {
@@ -116,6 +133,16 @@ fn damage_words(random: &mut Random, kind: ReadDamage, words: &mut Vec<u32>) {
         ReadDamage::CutShort => words.truncate(at),
         _ => words[at] = changed(random, kind, words[at]),
     }
+}
+
+/// How many words are left over behind so many: a few, or now and then more than any list has.
+fn left_over(random: &mut Random, count: usize) -> usize {
+    if !random.one_in(12) {
+        return random.pick(&[1, 1, 1, 2, 64]);
+    }
+    let most = random.pick(&[MOST, 5000]);
+    let length = random.between(LONGEST_LIST + 1, most);
+    length.saturating_sub(count).max(1)
 }
 
 /// Half of the time among the first words, where the colours are; now and then the last.
