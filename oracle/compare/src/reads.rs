@@ -40,6 +40,9 @@ pub fn compare_damaged(run: Run) -> Result<bool, String> {
         let (request, kinds) = damaged_request(run.seed, index);
         let due = due(read(&request));
         count_damaged(tally, &kinds, due.number);
+        if request.words.len() > MAX_WORDS {
+            tally.kind("longer than any", format!("{:2}", due.number));
+        }
         let mut same = same_read(&request, &due, tally);
         same.push(("rules of 23", same_rules(&request, due.number, tally)));
         tally.case(index, &same);
