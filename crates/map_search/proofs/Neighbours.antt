@@ -1,15 +1,16 @@
 -- The neighbours of a cell of a line, where the map's indices are below n. Assumes nothing.
-use Prim.Native.Nat.{ℕ, _≤_, _<_}
+use Prim.Native.Nat.{ℕ, _+_, _*_, _≤_, _<_}
 use mathlib.Core.Bool.{Bool, true, false, cond}
 use mathlib.Core.Path.{_≡_, refl}
 use mathlib.Core.Logic.{_⊎_, inl, inr}
 use mathlib.Core.List.{List}
 use native.Mathlib.Omega.{arith}
+use native.Mathlib.Nat.{mul-le-mul-right}
 use lib.ListN.{length}
 use Rattle.context.specs.Map.{rowAt, colAt}
 use Rattle.context.specs.Order.{orderOf, rankOf}
 use Rattle.context.specs.declared.Near.{Near}
-use Rattle.near.specs.Near.{nearAt, aroundOf, rankBy, Below, Usable}
+use Rattle.near.specs.Near.{one, nearAt, aroundOf, rankBy, Below, Usable}
 use Rattle.near.proofs.Laws.{usable, same-context, same-order, edge-rank}
 use Rattle.cells.proofs.Cheapest.{All}
 use Rattle.cells.proofs.Order.{order-some, order-under, order-fits}
@@ -43,6 +44,20 @@ module _ (m : List ℕ) (s : Scan) (l a : ℕ) where
     order-in =
         rw (← order-same n some)
         (order-under nearCell n near-usable, order-fits nearCell n near-usable most, order-some nearCell n near-usable)
+
+-- where the first cell of a line is inside, those of the lines before it are
+pub first-inside : (t : Bool) (w size k l : ℕ) → rowAt t l 0 * w + colAt t l 0 < size → k ≤ l → rowAt t k 0 * w + colAt t k 0 < size
+first-inside true w size k l inside up = omega arith
+first-inside false w size k l inside up = omega (arith, mul-le-mul-right w up)
+
+-- in the first line nothing is asked: index 0 comes first, which is the index order
+pub first-line : (m : List ℕ) (s : Scan) (l : ℕ) → l ≡ 0 → one 0 ≡ nearCell m s l 0
+unfolding nearAt
+first-line m s l e = rw e (go (s .transposed))
+  where
+    go : (t : Bool) → one 0 ≡ nearAt m (s .w) (rowAt t 0 0) (colAt t 0 0)
+    go true = refl
+    go false = refl
 
 -- at a line's first cell one neighbour alone comes first
 pub first-rank : (m : List ℕ) (s : Scan) (l n : ℕ) → Below m n → 0 < n → n ≤ 8 → (c : ℕ) → c < n

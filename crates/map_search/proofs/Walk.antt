@@ -20,7 +20,7 @@ module _ (samples costs colours : List Float) (n : ℕ) (lambda : Float) (s : Sc
   abbrev nextWalk : Walk → ℕ → Walk
   nextWalk t l = next samples costs colours n lambda s t l
 
-  next-by : (t : Walk) (l : ℕ) (c : Choice) (m : List ℕ) (cost : Cost) → c ≡ lineOf samples costs colours n lambda s (t .map) l (t .ctx)
+  pub next-by : (t : Walk) (l : ℕ) (c : Choice) (m : List ℕ) (cost : Cost) → c ≡ lineOf samples costs colours n lambda s (t .map) l (t .ctx)
       → m ≡ putLine samples costs colours n lambda s (t .map) l (t .ctx) c → cost ≡ plus (t .cost) (c .cost)
       → nextWalk t l ≡ record { map = m; flags = set (t .flags) l (c .flag); ctx = c .flag; cost = cost }
   next-by t l c m cost e f g = rw (g, f, e) refl

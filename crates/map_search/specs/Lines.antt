@@ -42,6 +42,10 @@ pub record Walk : Type 0 where
   pub ctx : ℕ
   pub cost : Cost
 
+-- before the first line
+abbrev pub started : List ℕ → List ℕ → Walk
+started map flags = record { map = map; flags = flags; ctx = 3; cost = record { dist = ofBits binary32 0; rate = ofBits binary32 0 } }
+
 pub record Ended : Type 0 where
   pub map : List ℕ
   pub flags : List ℕ
@@ -115,4 +119,4 @@ module _ (samples costs colours : List Float) (n : ℕ) (lambda : Float) (s : Sc
         cond (reached (next t l)) (record { map = next t l .map; flags = next t l .flags; result = Beaten }) (restOf k (l + 1) (next t l))
 
     abbrev pub mapOf : List ℕ → List ℕ → Ended
-    mapOf map flags = restOf (s .lines) 0 (record { map = map; flags = flags; ctx = 3; cost = record { dist = ofBits binary32 0; rate = ofBits binary32 0 } })
+    mapOf map flags = restOf (s .lines) 0 (started map flags)

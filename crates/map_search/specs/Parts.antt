@@ -8,13 +8,19 @@ use lib.Dec.{eqb, T}
 use lib.ListN.{getD}
 use lib.Ieee.{Float, nan, binary32, add, le, fits}
 use Rattle.ieee.specs.Bounds.{NotNeg, Within}
-use Rattle.near.specs.Near.{rankBy}
+use Rattle.context.specs.Map.{rowAt, colAt}
+use Rattle.context.specs.declared.Near.{Near}
+use Rattle.near.specs.Near.{nearAt, rankBy}
 use Rattle.cells.specs.Cell.{totalOf, cheapest}
 use Rattle.cells.specs.declared.Cost.{Cost}
 use Rattle.map_search.specs.declared.Choice.{Choice}
 use Rattle.scan.specs.declared.Scan.{Scan}
 use Rattle.map_search.specs.declared.MapResult.{MapResult}
 use Rattle.map_search.specs.Lines.{Ended, cellsOf, copied, constant, constants, totalBy}
+
+-- L3, one asking for all constants of line l: the context at its first cell
+abbrev pub firstNear : List ℕ → Scan → ℕ → Near
+firstNear m s l = nearAt m (s .w) (rowAt (s .transposed) l 0) (colAt (s .transposed) l 0)
 
 module _ (samples costs colours : List Float) (n : ℕ) (lambda : Float) (s : Scan) where
   -- the candidate that the code begins with: the copy, or on the first line the constant of index 0, which then meets itself

@@ -6,11 +6,12 @@ ghost use mathlib.Core.Bool.{cond};
 ghost use lib.Dec.{eqb};
 ghost use lib.ListN.{length, getD};
 ghost use lib.Ieee.{nan, binary32, add, lt};
+ghost use Rattle.context.specs.Map.{rowAt, colAt};
 ghost use Rattle.near.specs.Near.{rankBy, Below};
 ghost use Rattle.cells.specs.Cell.{square, totalOf, cheapest, eight};
 ghost use Rattle.scan.specs.Scan.{cellIn, fill, Sound};
 ghost use Rattle.map_search.specs.Lines.{distLine, rowCost, cellAt, copiedBy, lineOf, putLine, mapOf};
-ghost use Rattle.map_search.specs.Parts.{bestOf, Halted, constantBy, constantsBy, Priced, Built};
+ghost use Rattle.map_search.specs.Parts.{firstNear, bestOf, Halted, constantBy, constantsBy, Priced, Built};
 ghost use Rattle.map_search.specs.declared.Choice.{Choice};
 
 // A line's candidate; index is that of a constant line.
@@ -239,6 +240,46 @@ fn row_cost(costs: &[f32], ctx: usize, flag: usize) -> f32
     costs[9 + ctx * 3 + flag]
 }
 
+// The context at the first cell of line l, asked once for all constants of the line. In the first line nothing is asked:
+// the order is that of the indices.
+fn first_near(map: &[u8], s: Scan, l: usize) -> context::Near
+    requires { ⌜ rowAt (s .transposed) l 0 * s .w + colAt (s .transposed) l 0 < length (now map) ⌝ }
+    ensures { λ r. ⌜ r ≡ firstNear (now (map .entry)) s l ⌝ }
+{
+    if l == 0 {
+        return near::near_one(0);
+    }
+    scan::near_cell(map, s, l, 0)
+}
+
+// As `line_best`, by the context m at the line's first cell: the constants ask for none.
+pub fn best_by(
+    src: &[f32],
+    map: &[u8],
+    costs: &[f32],
+    colors: &[f32; 8],
+    s: Scan,
+    l: usize,
+    n: usize,
+    lambda: f32,
+    ctx: usize,
+    m: context::Near,
+) -> Choice
+    requires { ⌜ Sound s (length (now src)) × (length (now src) ≤ length (now map)) × (l < s .lines) × (ctx ≤ 3) ⌝ }
+    requires { ⌜ (2 ≤ n) × (n ≤ 8) × (length (now costs) ≡ 301) × Below (now map) n × (m ≡ firstNear (now map) s l) ⌝ }
+    ensures { λ r. ⌜ r ≡ bestOf (now (src .entry)) (now (costs .entry)) (now (colors .entry)) n lambda s (now (map .entry)) l ctx ⌝ }
+{
+    let k = m.ctx;
+    let v = m.first as usize;
+    let rates = cells::rates(costs, n, k, l == 0);
+    let dists = const_dists(src, colors, s, l);
+    let row = row_cost(costs, ctx, 1);
+    let zero = constant(&dists, &rates, v, row, 0);
+    let copy = row_cost(costs, ctx, 2);
+    let from = first_of(src, map, colors, s, l, copy, zero);
+    best_const(&dists, &rates, v, row, n, lambda, from)
+}
+
 // The cheapest of copy and constants.
 fn line_best(
     src: &[f32],
@@ -255,16 +296,8 @@ fn line_best(
     requires { ⌜ (2 ≤ n) × (n ≤ 8) × (length (now costs) ≡ 301) × Below (now map) n ⌝ }
     ensures { λ r. ⌜ r ≡ bestOf (now (src .entry)) (now (costs .entry)) (now (colors .entry)) n lambda s (now (map .entry)) l ctx ⌝ }
 {
-    let m = scan::near_cell(map, s, l, 0);
-    let k = m.ctx;
-    let v = m.first as usize;
-    let rates = cells::rates(costs, n, k, l == 0);
-    let dists = const_dists(src, colors, s, l);
-    let row = row_cost(costs, ctx, 1);
-    let zero = constant(&dists, &rates, v, row, 0);
-    let copy = row_cost(costs, ctx, 2);
-    let from = first_of(src, map, colors, s, l, copy, zero);
-    best_const(&dists, &rates, v, row, n, lambda, from)
+    let m = first_near(map, s, l);
+    best_by(src, map, costs, colors, s, l, n, lambda, ctx, m)
 }
 
 // The constant or the copy into the map.
@@ -279,6 +312,42 @@ fn put_best(map: &mut [u8], s: Scan, l: usize, best: Choice)
     } else {
         scan::copy_line(map, s, l);
     }
+}
+
+// As `choose_line`, by the cheapest of copy and constants.
+pub fn choose_from(
+    src: &[f32],
+    map: &mut [u8],
+    costs: &[f32],
+    colors: &[f32; 8],
+    s: Scan,
+    l: usize,
+    n: usize,
+    lambda: f32,
+    ctx: usize,
+    best: Choice,
+) -> Choice
+    requires { ⌜ Sound s (length (now src)) × (length (now src) ≤ length (now map)) × (length (now map) ≤ 4096) × (l < s .lines)
+        × (ctx ≤ 3) ⌝ }
+    requires { ⌜ (2 ≤ n) × (n ≤ 8) × (length (now costs) ≡ 301) × Below (now map) n × Priced (now costs) lambda
+        × (best ≡ bestOf (now src) (now costs) (now colors) n lambda s (now map) l ctx) ⌝ }
+    ensures { λ r. ⌜ r ≡ lineOf (now (src .entry)) (now (costs .entry)) (now (colors .entry)) n lambda s (now (map .entry)) l ctx ⌝ }
+    ensures { λ r. ⌜ now (map .exit) ≡ putLine (now (src .entry)) (now (costs .entry)) (now (colors .entry)) n lambda s
+        (now (map .entry)) l ctx r ⌝ }
+{
+    let row = row_cost(costs, ctx, 0);
+    let c = best.cost;
+    let limit = cells::total(c, lambda);
+    let own = cell_by_cell(src, map, costs, colors, s, l, n, lambda, row, limit);
+    if cells::total(own, lambda) < limit {
+        return Choice {
+            cost: own,
+            flag: 0,
+            index: 0,
+        };
+    }
+    put_best(map, s, l, best);
+    best
 }
 
 // The cheapest candidate of line l, under the flag context ctx, into the map.
@@ -301,22 +370,10 @@ fn choose_line(
         (now (map .entry)) l ctx r ⌝ }
 {
     let best = line_best(src, map, costs, colors, s, l, n, lambda, ctx);
-    let row = row_cost(costs, ctx, 0);
-    let c = best.cost;
-    let limit = cells::total(c, lambda);
-    let own = cell_by_cell(src, map, costs, colors, s, l, n, lambda, row, limit);
-    if cells::total(own, lambda) < limit {
-        return Choice {
-            cost: own,
-            flag: 0,
-            index: 0,
-        };
-    }
-    put_best(map, s, l, best);
-    best
+    choose_from(src, map, costs, colors, s, l, n, lambda, ctx, best)
 }
 
-fn wide(x: u8) -> usize
+pub fn wide(x: u8) -> usize
     ensures { λ r. ⌜ r ≡ x ⌝ }
 {
     x as usize

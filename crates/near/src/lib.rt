@@ -13,7 +13,7 @@ ghost use lib.Dec.{leb};
 ghost use Rattle.near.specs.Near.{one, nearAt, firstsOf, past, pastAll, indexAt};
 
 // One neighbour has context 0.
-fn near_one(v: u8) -> Near
+pub fn near_one(v: u8) -> Near
     ensures { λ r. ⌜ r ≡ one v ⌝ }
 {
     Near {

@@ -1,98 +1,19 @@
-use Rattle.scan.proofs.Fill.{below-8}
-use Rattle.map_search.proofs.Constants.{best-same}
-use Rattle.near.specs.Near.{Usable}
-use Rattle.map_search.proofs.Neighbours.{near-usable}
-use Rattle.scan.specs.Scan.{placeAt}
-use lib.ListN.{length}
-use Prim.Native.Nat.{_<_}
 use native.Mathlib.Omega.{arith}
-use denote.Ref.{now}
-use mathlib.Core.Path.{_∙_}
 use borrow.Author.Needs.{needs}
 use Rattle.map_search.proofs.line_best.Statement.{statement}
 use Rattle.map_search.proofs.line_best.Tie as tie
 
-inside : (s : tie.Start) → placeAt (s .args .s) (s .args .l) 0 < length (now (s .args .src))
-inside s = s .pre .0 .0 .inside (s .args .l) 0 (s .pre .0 .2) (s .pre .0 .0 .some)
-
-fit : (c : tie.After-near-cell) → Usable (c .near-cell .result) (c .before .before .before .before .args .n)
-fit c =
-    let s = c .before .before .before .before in
-    let a = s .args in
-    rw (c .near-cell .ensures)
-    (near-usable (now (a .map)) (a .s) (a .l) 0 (a .n) (s .pre .1 .3) (omega (arith, s .pre .1 .0)) (s .pre .1 .1))
-
-near-cell-requires : tie.Need-near-cell-requires
-near-cell-requires c κs =
+first-near-requires : tie.Need-first-near-requires
+first-near-requires c κs =
     let s = c .before .before .before in
-    omega (arith, inside s, s .pre .0 .1, s .pre .0 .0 .major (s .args .l) 0)
+    let sound = s .pre .0 .0 in
+    omega (arith, sound .inside (s .args .l) 0 (s .pre .0 .2) (sound .some), s .pre .0 .1, sound .major (s .args .l) 0)
 
-cast-v : tie.Need-cast-v
-cast-v c = search needs
-
-rates-requires : tie.Need-rates-requires
-rates-requires c κs =
-    let s = c .before .before .before .before .before in
-    (s .pre .1 .0, s .pre .1 .1, fit (c .before) .context, s .pre .1 .2)
-
-const-dists-requires : tie.Need-const-dists-requires
-const-dists-requires c κs = search needs
-
-row-cost-requires : tie.Need-row-cost-requires
-row-cost-requires c κs = search needs
-
-constant-requires : tie.Need-constant-requires
-constant-requires c κs =
-    let near = c .before .before .before .before .before .before in
-    (omega arith, omega (arith, fit near .first, near .before .before .before .before .pre .1 .1))
-
-row-cost-requires-2 : tie.Need-row-cost-requires-2
-row-cost-requires-2 c κs =
-    let s = c .before .before .before .before .before .before .before .before .before .before .before in
-    (s .pre .0 .3, omega arith, s .pre .1 .2)
-
-first-of-requires : tie.Need-first-of-requires
-first-of-requires c κs =
-    let s = c .before .before .before .before .before .before .before .before .before .before .before .before in
-    (s .pre .0 .0, s .pre .0 .1, s .pre .0 .2, below-8 (now (s .args .map)) (s .args .n) (s .pre .1 .3) (s .pre .1 .1))
-
-best-const-requires : tie.Need-best-const-requires
-best-const-requires c κs =
-    let near = c .before .before .before .before .before .before .before .before .before .before .before in
-    let s = near .before .before .before .before in
-    (s .pre .1 .1, omega (arith, fit near .first, s .pre .1 .1))
+best-by-requires : tie.Need-best-by-requires
+best-by-requires c κs = search needs
 
 returns : tie.Need-returns
-returns c =
-    let zero = c .before .before .before .before .before in
-    let dists = zero .before .before .before .before in
-    let near = dists .before .before .before in
-    let s = near .before .before .before .before in
-    let a = s .args in
-    c .best-const .ensures
-    ∙ rw (
-      c .before .before .before .first-of .ensures,
-      c .before .before .before .before .row-cost2 .ensures,
-      zero .constant .ensures,
-      zero .before .before .before .row-cost .ensures,
-      dists .const-dists .ensures,
-      dists .before .rates .ensures,
-      near .near-cell .ensures,
-    )
-    (best-same (now (a .src)) (now (a .costs)) (now (a .colors)) (a .n) (a .lambda) (a .s) (omega (arith, s .pre .1 .0)) (s .pre .1 .1)
-    (now (a .map)) (a .l) (a .ctx) (s .pre .1 .3))
+returns c = search needs
 
 pub line-best-spec : {M : Type 1} → statement M
-line-best-spec =
-    tie.close
-    (tie.spec
-    near-cell-requires
-    cast-v
-    rates-requires
-    const-dists-requires
-    row-cost-requires
-    constant-requires
-    row-cost-requires-2
-    first-of-requires
-    best-const-requires
-    returns)
+line-best-spec = tie.close (tie.spec first-near-requires best-by-requires returns)

@@ -17,12 +17,12 @@ use Rattle.map_search.proofs.LineCells.{length-cells}
 use Rattle.map_search.proofs.LineChoice.{Plain, best-plain}
 use Rattle.map_search.proofs.PutLine.{put-plain}
 use Rattle.map_search.proofs.Stop.{own-wins, own-loses}
-use Rattle.map_search.proofs.choose_line.Statement.{statement}
-use Rattle.map_search.proofs.choose_line.Tie as tie
+use Rattle.map_search.proofs.choose_from.Statement.{statement}
+use Rattle.map_search.proofs.choose_from.Tie as tie
 
 -- after the walk cell by cell
 abbrev start : tie.After-cell-by-cell → tie.Start
-start c = c .before .before .before .before .before .before .before .before .before .before
+start c = c .before .before .before .before .before .before .before .before
 
 module _ (c : tie.After-cell-by-cell) where
   abbrev src : List Float
@@ -41,7 +41,7 @@ module _ (c : tie.After-cell-by-cell) where
   walked = c .cell-by-cell .last .1 .0
 
   abbrev best : Choice
-  best = c .before .before .before .before .before .line-best .result
+  best = start c .args .best
 
   abbrev limit : Float
   limit = c .before .before .total .result
@@ -61,7 +61,7 @@ module _ (c : tie.After-cell-by-cell) where
       let a = start c .args in
       subst
       (Plain (a .n) (a .l))
-      (sym (c .before .before .before .before .before .line-best .ensures))
+      (sym (start c .pre .1 .5))
       (best-plain src costs colors (a .n) (a .lambda) (a .s) map (a .l) (a .ctx) (omega (arith, start c .pre .1 .0)))
 
   sound : Sound (start c .args .s) (length walked)
@@ -69,9 +69,6 @@ module _ (c : tie.After-cell-by-cell) where
       let S = start c in
       let e : length walked ≡ length map = ap length (c .cell-by-cell .ensures .put) ∙ length-cells _ _ _ _ _ _ _ _ _ _ in
       sound-mono (S .args .s) (length src) (length walked) (S .pre .0 .0) (omega (arith, S .pre .0 .1)) (omega (arith, S .pre .0 .2))
-
-line-best-requires : tie.Need-line-best-requires
-line-best-requires c κs = search needs
 
 row-cost-requires : tie.Need-row-cost-requires
 row-cost-requires c κs = search needs
@@ -96,7 +93,7 @@ returns c =
     rw (c .before .total2 .ensures) at (c .if1 .taken) in
     own-wins (src p) (costs p) (colors p) (S .args .n) (S .args .lambda) (S .args .s) (S .pre .1 .4) (S .pre .1 .0)
     (map p) (S .args .l) (S .args .ctx) (p .cell-by-cell .result) (best p) (walked p) (limit p)
-    (p .before .before .before .before .before .line-best .ensures) (p .before .before .total .ensures) (halted p) less
+    (S .pre .1 .5) (p .before .before .total .ensures) (halted p) less
 
 put-best-requires : tie.Need-put-best-requires
 put-best-requires c κs =
@@ -116,18 +113,17 @@ returns-2 c =
     rw (c .before .before .before .before .before .total2 .ensures) at (c .before .before .before .before .if1 .left) in (
       own-loses (src p) (costs p) (colors p) (S .args .n) (S .args .lambda) (S .args .s) (S .pre .1 .4) (S .pre .1 .0)
           (map p) (S .args .l) (S .args .ctx) (p .cell-by-cell .result) (best p) (walked p) (limit p)
-          (p .before .before .before .before .before .line-best .ensures) (p .before .before .total .ensures) H not-less,
+          (S .pre .1 .5) (p .before .before .total .ensures) H not-less,
       c .before .before .put-best .ensures
           ∙ rw (H .put)
           (put-plain (src p) (costs p) (colors p) (S .args .n) (S .args .lambda) (S .args .s) (map p) (S .args .l) (S .args .ctx)
           (length (src p)) (S .pre .0 .0) (S .pre .0 .3) (H .cells) (H .few) (best p) (plain p)),
     )
 
-pub choose-line-spec : {M : Type 1} → statement M
-choose-line-spec =
+pub choose-from-spec : {M : Type 1} → statement M
+choose-from-spec =
     tie.close
     (tie.spec
-    line-best-requires
     row-cost-requires
     total-requires
     cell-by-cell-requires
