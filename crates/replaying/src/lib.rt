@@ -172,3 +172,92 @@ pub fn print_bytes(bytes: &[u8], count: usize) {
     let words = words_of(bytes);
     print_buffer(&words, count, 238);
 }
+
+// A block to be searched: its sides, depth and lambda, the rooms for its map and flags, and how many samples and costs
+// stand in the buffers. `there` is false once the input has no further block.
+pub struct BlockHead {
+    pub there: bool,
+    pub width: usize,
+    pub height: usize,
+    pub bd: u32,
+    pub cells: usize,
+    pub flag_room: usize,
+    pub map_room: usize,
+    pub samples: usize,
+    pub costs: usize,
+    pub lambda: f32,
+    pub again: bool,
+}
+
+// The float of any bits: `from_bits` takes no NaN's.
+fn float_of(bits: u32) -> f32 {
+    if 2139095040 < bits % 2147483648 {
+        return 0.0 / 0.0;
+    }
+    f32::from_bits(bits)
+}
+
+fn float(b0: u8, b1: u8, b2: u8, b3: u8) -> f32 {
+    float_of(four(b0, b1, b2, b3))
+}
+
+fn head_of(head: &[u8; 15], got: usize) -> BlockHead
+    ensures { λ r. ⌜ (r .«flag_room» ≤ 80) × (r .«map_room» ≤ 4240) × (r .samples ≤ 4200) × (r .costs ≤ 560) ⌝ }
+{
+    BlockHead {
+        there: 15 <= got,
+        width: wide(head[0]),
+        height: wide(head[1]),
+        bd: word(head[2]),
+        cells: area(head[0], head[1]),
+        flag_room: size(head[3], 0, 80),
+        map_room: size(head[4], head[5], 4240),
+        samples: size(head[6], head[7], 4200),
+        costs: size(head[8], head[9], 560),
+        lambda: float(head[10], head[11], head[12], head[13]),
+        again: head[14] != 0,
+    }
+}
+
+// Reads as many floats into the front.
+fn read_floats(floats: &mut [f32], count: usize)
+    requires { ⌜ (count ≤ 4200) × (count ≤ length (now floats)) ⌝ }
+{
+    let mut bytes = [0u8; 16800];
+    read_front(&mut bytes, 4 * count);
+    let mut i: usize = 0;
+    while i < count {
+        let at = 4 * i;
+        floats[i] = float(bytes[at], bytes[at + 1], bytes[at + 2], bytes[at + 3]);
+        i += 1;
+    }
+}
+
+// Reads the costs, unless those of the block before serve again.
+fn read_costs(costs: &mut [f32], head: BlockHead)
+    requires { ⌜ (length (now costs) ≡ 560) × (head .costs ≤ 560) ⌝ }
+{
+    if head.again {
+        return;
+    }
+    read_floats(costs, head.costs);
+}
+
+// Reads the next block. It is 15 bytes: width, height, bd, flag room; then map room, sample count and cost count, each of
+// two bytes, the low one first; lambda's bits, of four; and 1 where the costs of the block before serve again, else 0.
+// Behind them stand the costs (none where they serve again) and the samples, each by its bits, of four bytes, the low one
+// first.
+pub fn next_block(samples: &mut [f32], costs: &mut [f32]) -> BlockHead
+    requires { ⌜ (length (now samples) ≡ 4200) × (length (now costs) ≡ 560) ⌝ }
+    ensures { λ r. ⌜ (r .«flag_room» ≤ 80) × (r .«map_room» ≤ 4240) × (r .samples ≤ 4200) × (r .costs ≤ 560) ⌝ }
+{
+    let mut bytes = [0u8; 15];
+    let got = io::read_full(0, &mut bytes);
+    let head = head_of(&bytes, got);
+    if !head.there {
+        return head;
+    }
+    read_costs(costs, head);
+    read_floats(samples, head.samples);
+    head
+}

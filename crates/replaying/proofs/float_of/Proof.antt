@@ -5,8 +5,8 @@ use lib.Ieee.{binary32}
 use lib.Ieee.Bits.{nanBits-above}
 use borrow.Author.Needs.{needs}
 use borrow.Author.Tests.{le-ltb}
-use Rattle.replay_blocks.proofs.float_of.Statement.{statement}
-use Rattle.replay_blocks.proofs.float_of.Tie as tie
+use Rattle.replaying.proofs.float_of.Statement.{statement}
+use Rattle.replaying.proofs.float_of.Tie as tie
 
 returns : tie.Need-returns
 returns c = search needs

@@ -2,8 +2,8 @@ use borrow.Author.Needs.{needs}
 use Prim.Native.Nat.{_≤_, _-_}
 use mathlib.Core.Path.{_≡_}
 use lib.ListN.{length}
-use Rattle.replay_blocks.proofs.read_floats.Statement.{statement}
-use Rattle.replay_blocks.proofs.read_floats.Tie as tie
+use Rattle.replaying.proofs.read_floats.Statement.{statement}
+use Rattle.replaying.proofs.read_floats.Tie as tie
 
 abbrev Inv-loop : tie.InvT-loop
 Inv-loop floats₀ count bytes i₀ floats i = (i ≤ count) × (length floats ≡ length floats₀)
