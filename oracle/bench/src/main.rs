@@ -3,15 +3,14 @@
 mod batch;
 mod plot;
 mod rounds;
-mod sheets;
 mod table;
 
-use batch::{corners, cut, due, read_ours, search_ours, Block, Prices, Room};
+use batch::{due, read_ours, search_ours, Prices, Room};
 use palette_oracle::generate::costs::logarithms;
+use palette_oracle::generate::sheets::{corners, sheets, Cut, Sheet};
 use palette_station::{list, Costs, Palette};
 use plot::{chart, Bar};
 use rounds::{time, Timed};
-use sheets::{sheets, Sheet};
 use std::process::ExitCode;
 use table::{print_head, print_line, Outcome};
 
@@ -101,8 +100,9 @@ fn run(options: &Options) -> (usize, Vec<Bar>) {
 fn measure(sheet: &Sheet, side: usize, lambda: f32, costs: &Costs, options: &Options) -> Outcome {
     let mut outcome = Outcome::default();
     let prices = Prices { lambda, costs };
-    for corners in corners(side, options.part).chunks(BATCH) {
-        let blocks = corners.iter().map(|&at| cut(&sheet.samples, at, side));
+    let taken: Vec<_> = corners(side).step_by(options.part).collect();
+    for corners in taken.chunks(BATCH) {
+        let blocks = corners.iter().map(|&corner| sheet.cut(corner, side));
         let mut batch: Vec<Timed> = blocks
             .filter_map(|block| looked_at(block, &prices, &mut outcome))
             .collect();
@@ -115,7 +115,7 @@ fn measure(sheet: &Sheet, side: usize, lambda: f32, costs: &Costs, options: &Opt
 
 /// Searches and lists a block by both and reads our list back, untimed. A block on which they
 /// differ, or whose list gives another palette back, is not timed.
-fn looked_at(block: Block, prices: &Prices, outcome: &mut Outcome) -> Option<Timed> {
+fn looked_at(block: Cut, prices: &Prices, outcome: &mut Outcome) -> Option<Timed> {
     let due = due(&block, prices);
     *outcome.numbers.entry(due.number).or_default() += 1;
     let mut room = Room::of(&block);
@@ -143,7 +143,7 @@ fn looked_at(block: Block, prices: &Prices, outcome: &mut Outcome) -> Option<Tim
 }
 
 /// Whether the palette's list is read as that palette; its estimate is in no list.
-fn reads_as(palette: &Palette, block: &Block, words: &[u32], room: &mut Room) -> bool {
+fn reads_as(palette: &Palette, block: &Cut, words: &[u32], room: &mut Room) -> bool {
     let mut due = palette.view();
     due.bits = 0.0;
     read_ours(block, words, room) == Ok(due)

@@ -1,7 +1,8 @@
 //! Times a batch: rounds of ours and of the original in turn.
 
-use crate::batch::{read_ours, search_original, search_ours, Block, Prices, Room};
+use crate::batch::{read_ours, search_original, search_ours, Prices, Room};
 use palette_compare::clock::Clock;
+use palette_oracle::generate::sheets::Cut;
 use palette_station::{list_into, Palette, MAX_WORDS};
 use std::time::Duration;
 
@@ -44,7 +45,7 @@ impl Times {
 
 /// A block with our buffers for it and, if it has one, its palette.
 pub struct Timed {
-    pub block: Block,
+    pub block: Cut,
     pub room: Room,
     pub palette: Option<Palette>,
     /// The palette's list; empty without one.

@@ -35,5 +35,6 @@ pub mod reads;
 pub mod reports;
 pub mod requests;
 pub mod searches;
+pub mod sheets;
 pub mod sides;
 pub mod texts;

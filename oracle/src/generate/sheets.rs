@@ -1,31 +1,46 @@
-//! Three drawn sheets of grey samples, the same on every machine.
+//! Drawn sheets of grey samples, the same on every machine, and the blocks that they are cut into.
 
-use palette_oracle::generate::random::Random;
+use super::random::Random;
 
-pub const WIDTH: usize = 2480;
-pub const HEIGHT: usize = 3508;
+const WIDTH: usize = 2480;
+const HEIGHT: usize = 3508;
 
-/// A4 at 300 dots per inch, 8 bits, row by row.
+/// The depth of all sheets.
+pub const DEPTH: u32 = 8;
+
+/// A4 at 300 dots per inch, row by row.
 pub struct Sheet {
     pub name: &'static str,
-    pub samples: Vec<u8>,
+    samples: Vec<u8>,
 }
 
+/// A block of a sheet.
+pub struct Cut {
+    pub w: usize,
+    pub h: usize,
+    pub samples: Vec<f32>,
+}
+
+/// Left upper corners of the blocks of a side, row by row.
+pub fn corners(side: usize) -> impl Iterator<Item = (usize, usize)> {
+    let rows = (0..HEIGHT).step_by(side);
+    rows.flat_map(move |y| (0..WIDTH).step_by(side).map(move |x| (x, y)))
+}
+
+impl Sheet {
+    /// The block with its left upper corner at a place, cut off at the sheet's edges.
+    pub fn cut(&self, (x, y): (usize, usize), side: usize) -> Cut {
+        let (w, h) = (side.min(WIDTH - x), side.min(HEIGHT - y));
+        let row = |row: usize| &self.samples[row * WIDTH + x..][..w];
+        let samples = (y..y + h).flat_map(|y| row(y).iter().map(|&s| f32::from(s)));
+        let samples = samples.collect();
+        Cut { w, h, samples }
+    }
+}
+
+/// The sheets that are timed.
 pub fn sheets() -> [Sheet; 3] {
-    [
-        Sheet {
-            name: "drawing",
-            samples: drawing(),
-        },
-        Sheet {
-            name: "hatching",
-            samples: hatching(),
-        },
-        Sheet {
-            name: "random",
-            samples: random_levels(),
-        },
-    ]
+    [drawing(), hatching(2), random_levels()]
 }
 
 /// Points of a pixel in each direction that a stroke covers or does not: 17 greys in all, as a
@@ -83,7 +98,7 @@ impl Stroke {
 }
 
 /// Dark strokes with grey edges on white.
-fn drawing() -> Vec<u8> {
+fn drawing() -> Sheet {
     let mut samples = vec![255; WIDTH * HEIGHT];
     for stroke in (0..STROKES).map(Stroke::drawn) {
         for y in stroke.reach(stroke.from.1, stroke.to.1, HEIGHT) {
@@ -94,16 +109,19 @@ fn drawing() -> Vec<u8> {
             }
         }
     }
-    samples
+    Sheet {
+        name: "drawing",
+        samples,
+    }
 }
 
 /// Patches of parallel lines, each with its direction, its distance of lines and two of eight
 /// levels.
-fn hatching() -> Vec<u8> {
+pub fn hatching(seed: u64) -> Sheet {
     const PATCH: (usize, usize) = (150, 110);
     let sample = |x: usize, y: usize| {
         let patch = y / PATCH.1 * WIDTH.div_ceil(PATCH.0) + x / PATCH.0;
-        let random = &mut Random::new(2, patch as u64);
+        let random = &mut Random::new(seed, patch as u64);
         let (across, down) = (random.below(4), random.between(1, 3));
         let (period, thick) = (random.between(6, 15), random.between(2, 4));
         let (ground, ink) = (random.below(8), random.below(8));
@@ -114,17 +132,17 @@ fn hatching() -> Vec<u8> {
         };
         (level * 36) as u8
     };
-    each(sample)
+    each("hatching", sample)
 }
 
 /// Any of 32 levels in each place.
-fn random_levels() -> Vec<u8> {
+fn random_levels() -> Sheet {
     let random = &mut Random::new(3, 0);
-    each(|_, _| (random.below(32) * 8) as u8)
+    each("random", |_, _| (random.below(32) * 8) as u8)
 }
 
-fn each(mut sample: impl FnMut(usize, usize) -> u8) -> Vec<u8> {
-    (0..WIDTH * HEIGHT)
-        .map(|at| sample(at % WIDTH, at / WIDTH))
-        .collect()
+fn each(name: &'static str, mut sample: impl FnMut(usize, usize) -> u8) -> Sheet {
+    let samples = (0..WIDTH * HEIGHT).map(|at| sample(at % WIDTH, at / WIDTH));
+    let samples = samples.collect();
+    Sheet { name, samples }
 }
