@@ -1,5 +1,6 @@
 //! Takes the original `palette.rs` from outside the repository and swaps its one `OnceLock`
-//! import for our cell type. Nothing else of the file is changed.
+//! import for our cell type. Nothing else of the file is changed. A second copy, for counting
+//! alone, has three lines more in its map search.
 
 use std::path::{Path, PathBuf};
 use std::{env, fs, process};
@@ -9,6 +10,28 @@ const DEFAULT_FOLDER: &str = "../../shared/docs/src";
 const FILE: &str = "src/av2/palette.rs";
 const IMPORT: &str = "use std::sync::OnceLock;";
 const OURS: &str = "use crate::lent::OnceLock;";
+
+/// The first and the last line of the map search.
+const MAP_SEARCH: &str = "fn build_map(";
+const END: &str = "}";
+
+/// Lines of the map search, each with the counter's line that is added behind it: where a map
+/// search begins, at the head of each turn of its line loop, and where a constant candidate asks
+/// for its context.
+const COUNTED: [(&str, &str); 3] = [
+    (
+        "    let n = colors.len();",
+        "    crate::map_searches::begin(n, transposed);",
+    ),
+    (
+        "    for l in 0..lines {",
+        "        crate::map_searches::reach_line();",
+    ),
+    (
+        "                let (ctx, order) = color_ctx(map, w, y, x, n);",
+        "                crate::map_searches::ask();",
+    ),
+];
 
 fn main() {
     println!("cargo::rerun-if-changed=build.rs");
@@ -26,9 +49,14 @@ fn build() -> Result<(), String> {
     let text = fs::read_to_string(&source)
         .map_err(|e| format!("{FILE} cannot be read at {}: {e}", source.display()))?;
     let out = PathBuf::from(env::var("OUT_DIR").map_err(|e| e.to_string())?);
-    let swapped = out.join("palette.rs");
-    write(&swapped, &swap_import(&text)?)?;
-    write(&out.join("original.rs"), &wrapper(&swapped))
+    let (original, counted) = (out.join("palette.rs"), out.join("counted.rs"));
+    let mut lines: Vec<&str> = text.lines().collect();
+    swap_import(&mut lines)?;
+    write(&original, &joined(&lines))?;
+    add_counter(&mut lines)?;
+    write(&counted, &joined(&lines))?;
+    let modules = module("palette", &original) + &module("counted", &counted);
+    write(&out.join("original.rs"), &modules)
 }
 
 fn source_path() -> Result<PathBuf, String> {
@@ -40,20 +68,45 @@ fn source_path() -> Result<PathBuf, String> {
     })
 }
 
-fn swap_import(text: &str) -> Result<String, String> {
-    let found = text.lines().filter(|line| *line == IMPORT).count();
-    if found != 1 {
-        return Err(format!(
-            "{FILE}: expected the line `{IMPORT}` exactly once, found it {found} times"
-        ));
+fn swap_import(lines: &mut [&str]) -> Result<(), String> {
+    lines[only_place(lines, IMPORT)?] = OURS;
+    Ok(())
+}
+
+/// Each line is looked for in the map search alone, since it may stand elsewhere too.
+fn add_counter(lines: &mut Vec<&str>) -> Result<(), String> {
+    let mut map_search = lines.split_off(only_place(lines, MAP_SEARCH)?);
+    let end = map_search.iter().position(|line| *line == END);
+    let behind = map_search.split_off(end.ok_or(format!("{FILE}: `{MAP_SEARCH}` has no end"))?);
+    for (line, added) in COUNTED {
+        let place = only_place(&map_search, line).map_err(|e| format!("{e} in build_map"))?;
+        map_search.insert(place + 1, added);
     }
-    Ok(text.replacen(&format!("\n{IMPORT}\n"), &format!("\n{OURS}\n"), 1))
+    lines.extend(map_search.into_iter().chain(behind));
+    Ok(())
+}
+
+/// The place of a line that must stand exactly once.
+fn only_place(lines: &[&str], line: &str) -> Result<usize, String> {
+    let is_line = |place: &usize| lines[*place] == line;
+    let places: Vec<usize> = (0..lines.len()).filter(is_line).collect();
+    match places[..] {
+        [place] => Ok(place),
+        _ => Err(format!(
+            "{FILE}: expected the line `{line}` exactly once, found it {} times",
+            places.len()
+        )),
+    }
+}
+
+fn joined(lines: &[&str]) -> String {
+    lines.iter().flat_map(|line| [*line, "\n"]).collect()
 }
 
 /// `include!` cannot take a file with inner doc comments, a `#[path]` module can; and `#[path]`
-/// needs a literal, so the line that names the built file is generated too.
-fn wrapper(swapped: &Path) -> String {
-    format!("#[allow(dead_code, clippy::all)]\n#[path = {swapped:?}]\npub(crate) mod palette;\n")
+/// needs a literal, so the line that names a built file is generated too.
+fn module(name: &str, built: &Path) -> String {
+    format!("#[allow(dead_code, clippy::all)]\n#[path = {built:?}]\npub(crate) mod {name};\n")
 }
 
 fn write(path: &Path, text: &str) -> Result<(), String> {

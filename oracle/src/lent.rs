@@ -21,7 +21,8 @@ struct Table {
     next: usize,
 }
 
-/// The filled value of the last table seen. Its box is used again for the next one.
+/// The filled value of the last table seen. Its box is used again for the next one. The counted
+/// copy's value has another type, so it runs on threads of its own.
 struct Kept {
     generation: u64,
     value: Box<dyn Any>,
@@ -101,8 +102,8 @@ impl<T: 'static> OnceLock<T> {
             }
             let value: *const T = kept_value(kept);
             // SAFETY: the box is never freed before the thread ends, and it is overwritten only
-            // here after another `lend`, which `search` does before it calls the original and
-            // never while a reference from an earlier call is alive.
+            // here after another `lend`, which is done before the original or its counted copy is
+            // called and never while a reference from an earlier call is alive.
             unsafe { &*value }
         })
     }

@@ -13,6 +13,7 @@ pub mod check;
 pub mod generate;
 mod lent;
 pub mod listing_text;
+pub mod map_searches;
 mod original;
 mod places;
 pub mod reading;

@@ -70,7 +70,7 @@ pub fn search(
     costs: &Costs,
 ) -> Option<Found> {
     lent::lend(costs);
-    palette::search(samples, w, h, bd, lambda).map(found)
+    palette::search(samples, w, h, bd, lambda).map(Found::from)
 }
 
 /// Fills the original's costs from a table ahead of a timed search, which then finds them filled
@@ -80,19 +80,29 @@ pub fn fill_costs(costs: &Costs) {
     search(&samples, 16, 1, 8, 0.0, costs);
 }
 
-fn found(p: palette::Palette) -> Found {
-    let bits = p.bits;
-    let palette = Palette {
-        w: p.w,
-        h: p.h,
-        bd: p.bd,
-        colors: p.colors,
-        transposed: p.transposed,
-        flags: p.flags,
-        map: p.map,
+/// The counted copy has a palette type of its own, of the same form.
+macro_rules! found_from {
+    ($palette:ty) => {
+        impl From<$palette> for $crate::Found {
+            fn from(p: $palette) -> Self {
+                let bits = p.bits;
+                let palette = $crate::Palette {
+                    w: p.w,
+                    h: p.h,
+                    bd: p.bd,
+                    colors: p.colors,
+                    transposed: p.transposed,
+                    flags: p.flags,
+                    map: p.map,
+                };
+                $crate::Found { palette, bits }
+            }
+        }
     };
-    Found { palette, bits }
 }
+
+found_from!(palette::Palette);
+pub(crate) use found_from;
 
 /// The call list: size, colours against the cache, then the map.
 pub fn list(palette: &Palette, cache: &[u16]) -> Vec<u32> {
