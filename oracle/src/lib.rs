@@ -7,6 +7,7 @@ mod av2 {
 }
 
 pub mod answers;
+pub mod asking;
 mod c_interface;
 pub mod check;
 #[macro_use]

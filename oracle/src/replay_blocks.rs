@@ -27,14 +27,13 @@ pub struct ReplayedBlock {
 
 /// The first blocks of a seed whose numbers fit the form.
 pub fn replayed_blocks(seed: u64, count: usize) -> impl Iterator<Item = ReplayedBlock> {
-    let mut before = vec![];
+    let mut costs_before = CostsBefore::default();
     (0..)
         .map(move |index| drawn(seed, index))
         .filter(|(request, _)| fits(request))
         .take(count)
         .map(move |(request, kinds)| {
-            let now = bits(&request.costs);
-            let same_costs = now == std::mem::replace(&mut before, now.clone());
+            let same_costs = costs_before.are(&request.costs);
             let answer = search_answer(&request);
             ReplayedBlock {
                 request,
@@ -45,9 +44,18 @@ pub fn replayed_blocks(seed: u64, count: usize) -> impl Iterator<Item = Replayed
         })
 }
 
-/// Costs are compared by bits: NaN is then equal to itself, and -0.0 is not 0.0.
-fn bits(costs: &[f32]) -> Vec<u32> {
-    costs.iter().map(|cost| cost.to_bits()).collect()
+/// The costs of the block before, by bits: NaN is then equal to itself, and -0.0 is not 0.0.
+#[derive(Default)]
+pub(crate) struct CostsBefore(Vec<u32>);
+
+impl CostsBefore {
+    /// Whether they are these, which are the ones before from then on.
+    pub(crate) fn are(&mut self, costs: &[f32]) -> bool {
+        let now: Vec<u32> = costs.iter().map(|cost| cost.to_bits()).collect();
+        let same = now == self.0;
+        self.0 = now;
+        same
+    }
 }
 
 /// Close blocks of this seed on which altered copies of the original gave another answer: without
@@ -124,22 +132,21 @@ fn fits(request: &SearchRequest) -> bool {
         && request.map_room.max(request.samples.len()) <= PLACES
 }
 
+pub fn bytes(replayed: &ReplayedBlock) -> Vec<u8> {
+    request_bytes(&replayed.request, replayed.same_costs)
+}
+
 /// The bytes of a block: a head of 15, then the costs unless those before are used again, then
 /// the samples.
-pub fn bytes(replayed: &ReplayedBlock) -> Vec<u8> {
-    let request = &replayed.request;
+pub(crate) fn request_bytes(request: &SearchRequest, same_costs: bool) -> Vec<u8> {
     let mut bytes = vec![request.w as u8, request.h as u8, request.bd as u8];
     bytes.push(request.flag_room as u8);
     put_pair(&mut bytes, request.map_room as u16);
     put_pair(&mut bytes, request.samples.len() as u16);
     put_pair(&mut bytes, request.costs.len() as u16);
     put_float(&mut bytes, request.lambda);
-    bytes.push(u8::from(replayed.same_costs));
-    let costs = if replayed.same_costs {
-        &[]
-    } else {
-        &request.costs[..]
-    };
+    bytes.push(u8::from(same_costs));
+    let costs = if same_costs { &[] } else { &request.costs[..] };
     for &value in costs.iter().chain(&request.samples) {
         put_float(&mut bytes, value);
     }

@@ -1,5 +1,6 @@
 //! Answers of the original, for cases read or generated.
 
+use palette_oracle::asking::{self, fresh, hatched, MOST_BLOCKS};
 use palette_oracle::generate::{blocks, caches, contexts, palettes};
 use palette_oracle::replay::{self, replayed};
 use palette_oracle::replay_blocks::{self, replayed_blocks};
@@ -7,7 +8,7 @@ use palette_oracle::replay_reads::{self, replayed_reads};
 use palette_oracle::report_text::report;
 use palette_oracle::reported::reported;
 use palette_oracle::text::{answer, parse, Case};
-use palette_oracle::worked;
+use palette_oracle::{worked, Block};
 use std::io::{self, BufRead, BufWriter, Write};
 use std::process::ExitCode;
 
@@ -16,7 +17,8 @@ const USAGE: &str =
      | replay-input SEED COUNT | replay-output SEED COUNT\n\
      | replay-blocks-input SEED COUNT | replay-blocks-output SEED COUNT\n\
      | read-input SEED COUNT | read-output SEED COUNT\n\
-     | report-input SEED COUNT | report-output SEED COUNT";
+     | report-input SEED COUNT | report-output SEED COUNT\n\
+     | asking-input [SEED COUNT] | asking-output [SEED COUNT]";
 
 fn main() -> ExitCode {
     let arguments: Vec<String> = std::env::args().skip(1).collect();
@@ -43,6 +45,8 @@ fn main() -> ExitCode {
         }
         ["report-input", seed, count] => write_report(seed, count, |text| text),
         ["report-output", seed, count] => write_report(seed, count, |text| report(&text)),
+        ["asking-input", ref choice @ ..] => write_asking_input(choice),
+        ["asking-output", ref choice @ ..] => write_asking_output(choice),
         _ => Err(USAGE.to_string()),
     };
     match result {
@@ -113,10 +117,14 @@ fn write_each<T, Cases: Iterator<Item = T>>(
     form: impl Fn(usize, &T) -> Vec<u8>,
 ) -> Result<(), String> {
     let (seed, count) = (whole("seed", seed)?, whole("count", count)? as usize);
+    let placed = (1..).zip(cases(seed, count));
+    write_pieces(placed.map(|(place, case)| form(place, &case)))
+}
+
+fn write_pieces(pieces: impl Iterator<Item = impl AsRef<[u8]>>) -> Result<(), String> {
     let mut out = BufWriter::new(io::stdout().lock());
-    for (before, case) in cases(seed, count).enumerate() {
-        let bytes = form(before + 1, &case);
-        out.write_all(&bytes).map_err(|e| e.to_string())?;
+    for piece in pieces {
+        out.write_all(piece.as_ref()).map_err(|e| e.to_string())?;
     }
     out.flush().map_err(|e| e.to_string())
 }
@@ -126,6 +134,29 @@ fn write_report(seed: &str, count: &str, form: fn(Vec<u8>) -> Vec<u8>) -> Result
     let text = reported(whole("seed", seed)?, whole("count", count)?);
     let mut out = io::stdout().lock();
     out.write_all(&form(text)).map_err(|e| e.to_string())
+}
+
+fn write_asking_input(choice: &[&str]) -> Result<(), String> {
+    write_pieces(asking::input(asking_blocks(choice)?))
+}
+
+fn write_asking_output(choice: &[&str]) -> Result<(), String> {
+    write_pieces(asking::output(asking_blocks(choice)?))
+}
+
+/// The blocks of the gate, or fresh ones of a seed.
+fn asking_blocks(choice: &[&str]) -> Result<Box<dyn Iterator<Item = Block>>, String> {
+    let (seed, count) = match choice {
+        [] => return Ok(Box::new(hatched().into_iter())),
+        [seed, count] => (whole("seed", seed)?, whole("count", count)? as usize),
+        _ => return Err(USAGE.to_string()),
+    };
+    if count > MOST_BLOCKS {
+        return Err(format!(
+            "count {count}: the crate reads {MOST_BLOCKS} blocks"
+        ));
+    }
+    Ok(Box::new(fresh(seed, count)))
 }
 
 fn block_case(seed: u64, index: u64) -> Named {

@@ -35,6 +35,22 @@ impl SearchRequest {
     }
 }
 
+/// A block with exact rooms.
+impl From<Block> for SearchRequest {
+    fn from(block: Block) -> Self {
+        SearchRequest {
+            w: block.w,
+            h: block.h,
+            bd: block.bd,
+            lambda: block.lambda,
+            costs: block.costs.to_vec(),
+            map_room: block.samples.len(),
+            flag_room: block.w.max(block.h),
+            samples: block.samples,
+        }
+    }
+}
+
 kinds! {
     /// What is wrong in a damaged request. Two of one kind may undo each other.
     SearchDamage {
@@ -72,16 +88,9 @@ pub fn search_request(seed: u64, index: u64) -> (SearchRequest, SearchKinds) {
 
 /// A block with its rooms, damaged or not.
 pub fn with_rooms(random: &mut Random, block: Block) -> (SearchRequest, Vec<SearchDamage>) {
-    let mut request = SearchRequest {
-        w: block.w,
-        h: block.h,
-        bd: block.bd,
-        lambda: block.lambda,
-        costs: block.costs.to_vec(),
-        map_room: block.samples.len() + damages::spare(random),
-        flag_room: block.w.max(block.h) + damages::spare(random),
-        samples: block.samples,
-    };
+    let mut request = SearchRequest::from(block);
+    request.map_room += damages::spare(random);
+    request.flag_room += damages::spare(random);
     let damages = damages::draw(random, SearchDamage::ALL);
     for &kind in &damages {
         damage(random, kind, &mut request);
