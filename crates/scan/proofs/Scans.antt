@@ -8,7 +8,7 @@ use lib.Arith.{digits-lt, digits-div, digits-mod}
 use mathlib.Core.List.{List}
 use lib.ListN.{getD}
 use Rattle.lists.proofs.Choice.{either-way}
-use Rattle.context.specs.Map.{linesOf, lengthOf}
+use Rattle.context.specs.Map.{rowAt, colAt, linesOf, lengthOf}
 use Rattle.scan.specs.Scan.{scanOf, cellIn, Sound}
 use Rattle.scan.specs.declared.Scan.{Scan}
 
@@ -59,6 +59,11 @@ sound-mono s N M sound more most = record {
   apart = sound .apart;
   major = sound .major;
 }
+
+-- a cell stands inside every map of so many cells or more
+pub cell-inside : {s : Scan} {N size : ℕ} → Sound s N → N ≤ size → (l a : ℕ) → l < s .lines → a < s .len
+    → rowAt (s .transposed) l a * s .w + colAt (s .transposed) l a < size
+cell-inside sound more l a on in-line = omega (arith, sound .inside l a on in-line, sound .major l a)
 
 -- a scan's cells by row and column, as the listing's acceptance reads them
 pub line-cell : (m : List ℕ) (w h : ℕ) (t : Bool) (l a : ℕ) → cellIn m (scanOf w h t) l a ≡ getD m (cond t a l * w + cond t l a) 0

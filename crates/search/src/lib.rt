@@ -36,7 +36,7 @@ fn large_ok(width: usize, height: usize) -> bool
 }
 
 // The first of the numbers 1 to 8 that applies, or 0.
-fn fault(samples: &[f32], costs: &[f32], b: Block, cells: usize, lines: usize) -> u32
+pub fn fault(samples: &[f32], costs: &[f32], b: Block, cells: usize, lines: usize) -> u32
     ensures { λ r. ⌜ r ≡ faultOf (now (samples .entry)) (now (costs .entry)) b cells lines ⌝ }
 {
     if !accept::sides_ok(b.width, b.height) {
@@ -67,7 +67,7 @@ fn fault(samples: &[f32], costs: &[f32], b: Block, cells: usize, lines: usize) -
 }
 
 // Number 9 or 10, or 0.
-fn levels_fault(levels: usize) -> u32
+pub fn levels_fault(levels: usize) -> u32
     ensures { λ r. ⌜ r ≡ levelsFault levels ⌝ }
 {
     if levels < 2 {
@@ -80,7 +80,7 @@ fn levels_fault(levels: usize) -> u32
 }
 
 // The colours as f32.
-fn values(colors: [u16; 8]) -> [f32; 8]
+pub fn values(colors: [u16; 8]) -> [f32; 8]
     ensures { λ r. ⌜ r ≡ map (nat binary32) colors ⌝ }
 {
     [
@@ -131,7 +131,7 @@ fn judge(
 }
 
 // The map of a size in one orientation, or that its total reaches the bound; cells and lines are zeros, as many as it needs.
-fn map_in(
+pub fn map_in(
     samples: &[f32],
     costs: &[f32],
     b: Block,
