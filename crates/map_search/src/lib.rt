@@ -108,19 +108,7 @@ fn constant(dists: &[f32; 8], rates: &[f32; 8], v: usize, row: f32, c: usize) ->
     }
 }
 
-// The cheaper of two, the first where they are equal.
-fn cheaper(a: Choice, b: Choice, lambda: f32) -> Choice
-    ensures { λ r. ⌜ r ≡ cond (lt (totalOf (b .cost) lambda) (totalOf (a .cost) lambda)) b a ⌝ }
-{
-    let p = a.cost;
-    let q = b.cost;
-    if cells::total(q, lambda) < cells::total(p, lambda) {
-        b
-    } else {
-        a
-    }
-}
-
+// The cheapest of a candidate and the constants, the first of the cheapest.
 fn best_const(
     dists: &[f32; 8],
     rates: &[f32; 8],
@@ -135,10 +123,15 @@ fn best_const(
         (constantsBy (now (dists .entry)) (now (rates .entry)) v row 0 n) ⌝ }
 {
     let mut best = from;
+    let mut least = cells::total(from.cost, lambda);
     let mut c: usize = 0;
     while c < n {
         let next = constant(dists, rates, v, row, c);
-        best = cheaper(best, next, lambda);
+        let total = cells::total(next.cost, lambda);
+        if total < least {
+            best = next;
+            least = total;
+        }
         c += 1;
     }
     best
@@ -162,9 +155,9 @@ fn one_cell(
 {
     let p = scan::place(s, l, a);
     let x = src[p];
-    let m = scan::near_cell(map, s, l, a);
+    let m = scan::near_at_place(map, s, l, a, p);
     let k = m.ctx;
-    let rates = cells::rates(costs, n, k, l + a == 0);
+    let rates = cells::rates(costs, n, k, p == 0);
     cells::choose_cell(x, colors, m, &rates, n, lambda)
 }
 

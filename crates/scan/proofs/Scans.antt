@@ -7,9 +7,11 @@ use native.Mathlib.Nat.{mul-one, mul-le-mul-right, mul-le-mul-left, mul-comm, ad
 use lib.Arith.{digits-lt, digits-div, digits-mod}
 use mathlib.Core.List.{List}
 use lib.ListN.{getD}
+use lib.Dec.{eqb}
+use borrow.Author.Tests.{eq-eqb, ne-eqb, eqb-true, eqb-false}
 use Rattle.lists.proofs.Choice.{either-way}
 use Rattle.context.specs.Map.{rowAt, colAt, linesOf, lengthOf}
-use Rattle.scan.specs.Scan.{scanOf, cellIn, Sound}
+use Rattle.scan.specs.Scan.{scanOf, placeAt, cellIn, Sound}
 use Rattle.scan.specs.declared.Scan.{Scan}
 
 digits-same : (w l a k b : ℕ) → a < w → b < w → l * w + a ≡ k * w + b → (l ≡ k) × (a ≡ b)
@@ -64,6 +66,19 @@ sound-mono s N M sound more most = record {
 pub cell-inside : {s : Scan} {N size : ℕ} → Sound s N → N ≤ size → (l a : ℕ) → l < s .lines → a < s .len
     → rowAt (s .transposed) l a * s .w + colAt (s .transposed) l a < size
 cell-inside sound more l a on in-line = omega (arith, sound .inside l a on in-line, sound .major l a)
+
+-- the map's first place is that of the first line's first cell
+pub first-place : {s : Scan} {N : ℕ} → Sound s N → (l a : ℕ) → l < s .lines → a < s .len → eqb (placeAt s l a) 0 ≡ eqb (l + a) 0
+first-place {s} sound l a on in-line = go (eqb (l + a) 0) refl
+  where
+    none : (l a : ℕ) → l + a ≡ 0 → placeAt s l a ≡ 0
+    none l a e = let p : l ≡ 0 = omega arith in let q : a ≡ 0 = omega arith in rw (p, q) (omega arith)
+
+    go : (t : Bool) → eqb (l + a) 0 ≡ t → eqb (placeAt s l a) 0 ≡ t
+    go true e = eq-eqb (placeAt s l a) 0 (none l a (eqb-true (l + a) 0 e))
+    go false e = ne-eqb (placeAt s l a) 0 (λ z.
+        let same = sound .apart l a 0 0 on (omega arith) in-line (sound .some) (z ∙ sym (none 0 0 refl)) in
+        eqb-false (l + a) 0 e (omega (arith, same .0, same .1)))
 
 -- a scan's cells by row and column, as the listing's acceptance reads them
 pub line-cell : (m : List ℕ) (w h : ℕ) (t : Bool) (l a : ℕ) → cellIn m (scanOf w h t) l a ≡ getD m (cond t a l * w + cond t l a) 0

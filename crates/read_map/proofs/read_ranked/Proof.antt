@@ -1,6 +1,7 @@
 use native.Mathlib.Omega.{arith}
 use borrow.Author.Needs.{needs}
 use Rattle.near.specs.Near.{Usable}
+use Rattle.scan.proofs.Scans.{cell-inside}
 use Rattle.read_map.proofs.Ranked.{near-usable, ranked-read}
 use Rattle.read_map.proofs.read_ranked.Statement.{statement}
 use Rattle.read_map.proofs.read_ranked.Tie as tie
@@ -15,8 +16,7 @@ known c =
 near-cell-requires : tie.Need-near-cell-requires
 near-cell-requires c κs =
     let s = c .before .before in
-    let a = s .args in
-    rw (s .pre .0 .0 .major (a .l) (a .a)) (s .pre .0 .0 .inside (a .l) (a .a) (s .pre .0 .1) (s .pre .0 .2))
+    cell-inside (s .pre .0 .0) (omega arith) (s .args .l) (s .args .a) (s .pre .0 .1) (s .pre .0 .2)
 
 sub-take : tie.Need-sub-take
 sub-take c = search needs
