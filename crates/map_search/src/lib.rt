@@ -155,7 +155,7 @@ fn one_cell(
 {
     let p = scan::place(s, l, a);
     let x = src[p];
-    let m = scan::near_at_place(map, s, l, a, p);
+    let m = scan::near_cell(map, s, l, a);
     let k = m.ctx;
     let rates = cells::rates(costs, n, k, p == 0);
     cells::choose_cell(x, colors, m, &rates, n, lambda)

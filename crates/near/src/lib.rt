@@ -30,14 +30,7 @@ pub fn near_at(map: &[u8], w: usize, y: usize, x: usize) -> Near
     requires { ⌜ y * w + x < length (now map) ⌝ }
     ensures { λ r. ⌜ r ≡ nearAt (now (map .entry)) w y x ⌝ }
 {
-    near_at_place(map, w, y, x, y * w + x)
-}
-
-// As `near_at`, with the cell's place at hand.
-pub fn near_at_place(map: &[u8], w: usize, y: usize, x: usize, p: usize) -> Near
-    requires { ⌜ (p ≡ y * w + x) × (p < length (now map)) ⌝ }
-    ensures { λ r. ⌜ r ≡ nearAt (now (map .entry)) w y x ⌝ }
-{
+    let p = y * w + x;
     if y == 0 {
         if x == 0 {
             return near_one(0);

@@ -84,14 +84,3 @@ pub fn near_cell(map: &[u8], s: Scan, l: usize, a: usize) -> context::Near
     }
     near::near_at(map, s.w, l, a)
 }
-
-// As `near_cell`, with the cell's place at hand.
-pub fn near_at_place(map: &[u8], s: Scan, l: usize, a: usize, p: usize) -> context::Near
-    requires { ⌜ (p ≡ rowAt (s .transposed) l a * s .w + colAt (s .transposed) l a) × (p < length (now map)) ⌝ }
-    ensures { λ r. ⌜ r ≡ nearAt (now (map .entry)) (s .w) (rowAt (s .transposed) l a) (colAt (s .transposed) l a) ⌝ }
-{
-    if s.transposed {
-        return near::near_at_place(map, s.w, a, l, p);
-    }
-    near::near_at_place(map, s.w, l, a, p)
-}

@@ -1,24 +1,24 @@
 use Rattle.near.specs.Near.{Usable}
 use Rattle.map_search.proofs.Neighbours.{near-usable, context-same, order-same}
 use Rattle.scan.specs.Scan.{placeAt}
-use Rattle.scan.proofs.Scans.{first-place}
+use Rattle.scan.proofs.Scans.{cell-inside, first-place}
 use Rattle.map_search.specs.Lines.{cellAt}
 use lib.ListN.{length}
 use Prim.Native.Nat.{_<_}
 use native.Mathlib.Omega.{arith}
 use denote.Ref.{now}
-use mathlib.Core.Path.{refl, sym, _∙_}
+use mathlib.Core.Path.{refl, _∙_}
 use Rattle.map_search.proofs.one_cell.Statement.{statement}
 use Rattle.map_search.proofs.one_cell.Tie as tie
 
 inside : (s : tie.Start) → placeAt (s .args .s) (s .args .l) (s .args .a) < length (now (s .args .src))
 inside s = s .pre .0 .0 .inside (s .args .l) (s .args .a) (s .pre .0 .2) (s .pre .0 .3)
 
-fit : (c : tie.After-near-at-place) → Usable (c .near-at-place .result) (c .before .before .before .before .before .before .args .n)
+fit : (c : tie.After-near-cell) → Usable (c .near-cell .result) (c .before .before .before .before .before .before .args .n)
 fit c =
     let s = c .before .before .before .before .before .before in
     let a = s .args in
-    rw (c .near-at-place .ensures)
+    rw (c .near-cell .ensures)
     (near-usable (now (a .map)) (a .s) (a .l) (a .a) (a .n) (s .pre .1 .3) (omega (arith, s .pre .1 .0)) (s .pre .1 .1))
 
 place-requires : tie.Need-place-requires
@@ -30,11 +30,10 @@ mul-x c = omega (arith, c .place .ensures, inside (c .before .before .before .be
 shared-slice-read-x : tie.Need-shared-slice-read-x
 shared-slice-read-x c = omega (arith, c .before .place .ensures, inside (c .before .before .before .before .before))
 
-near-at-place-requires : tie.Need-near-at-place-requires
-near-at-place-requires c κs =
+near-cell-requires : tie.Need-near-cell-requires
+near-cell-requires c κs =
     let s = c .before .before .before .before .before in
-    let is = c .before .place .ensures in
-    (is ∙ sym (s .pre .0 .0 .major (s .args .l) (s .args .a)), omega (arith, is, inside s, s .pre .0 .1))
+    cell-inside (s .pre .0 .0) (s .pre .0 .1) (s .args .l) (s .args .a) (s .pre .0 .2) (s .pre .0 .3)
 
 rates-requires : tie.Need-rates-requires
 rates-requires c κs =
@@ -55,7 +54,7 @@ returns c =
     c .choose-cell .ensures
     ∙ rw (
       c .before .before .rates .ensures,
-      near .near-at-place .ensures,
+      near .near-cell .ensures,
       near .before .before .place .ensures,
       first-place (s .pre .0 .0) (a .l) (a .a) (s .pre .0 .2) (s .pre .0 .3),
       order-same (now (a .map)) (a .s) (a .l) (a .a) (a .n) (omega (arith, s .pre .1 .0)),
@@ -70,7 +69,7 @@ one-cell-spec =
     place-requires
     mul-x
     shared-slice-read-x
-    near-at-place-requires
+    near-cell-requires
     rates-requires
     choose-cell-requires
     returns)

@@ -7,8 +7,8 @@ use Rattle.context.proofs.Places.{around-top, around-side, around-three, row-ab
 use Rattle.near.specs.Near.{nearAt}
 use Rattle.near.proofs.Laws.{away}
 use borrow.Author.Needs.{needs}
-use Rattle.near.proofs.near_at_place.Statement.{statement}
-use Rattle.near.proofs.near_at_place.Tie as tie
+use Rattle.near.proofs.near_at.Statement.{statement}
+use Rattle.near.proofs.near_at.Tie as tie
 
 abbrev start : tie.Else1 → tie.Start
 start c = c .before .before
@@ -16,6 +16,12 @@ start c = c .before .before
 -- there is a row above
 above : (c : tie.Else1) → start c .args .w ≤ start c .args .y * start c .args .w
 above c = row-above (start c .args .y) (start c .args .w) (omega arith)
+
+mul-p : tie.Need-mul-p
+mul-p c = search needs
+
+add-p : tie.Need-add-p
+add-p c = search needs
 
 near-one-requires : tie.Need-near-one-requires
 near-one-requires c κs = search needs
@@ -37,7 +43,7 @@ returns-2 : tie.Need-returns-2
 returns-2 c =
     let s = c .before .before .before .before .before .args in
     let there = around-top (now (s .map)) (s .w) (s .y) (s .x) (c .before .before .before .if1 .taken) (omega arith) in
-    rw (c .before .before .before .before .before .pre .0) at (c .near-one2 .ensures) ∙ sym (away (now (s .map)) (s .w) (s .y) (s .x) (omega arith) ∙ ap held there)
+    c .near-one2 .ensures ∙ sym (away (now (s .map)) (s .w) (s .y) (s .x) (omega arith) ∙ ap held there)
 
 sub-near-one-2 : tie.Need-sub-near-one-2
 sub-near-one-2 c = omega (arith, above (c .before))
@@ -52,7 +58,7 @@ returns-3 : tie.Need-returns-3
 returns-3 c =
     let s = start (c .before .before .before) .args in
     let there = around-side (now (s .map)) (s .w) (s .y) (s .x) (omega arith) (c .before .before .if3 .taken) in
-    rw (start (c .before .before .before) .pre .0) at (c .near-one3 .ensures) ∙ sym (away (now (s .map)) (s .w) (s .y) (s .x) (omega arith) ∙ ap held there)
+    c .near-one3 .ensures ∙ sym (away (now (s .map)) (s .w) (s .y) (s .x) (omega arith) ∙ ap held there)
 
 sub-left : tie.Need-sub-left
 sub-left c = search needs
@@ -82,12 +88,14 @@ returns-4 : tie.Need-returns-4
 returns-4 c =
     let s = start (c .before .before .before .before .before) .args in
     let there = around-three (now (s .map)) (s .w) (s .y) (s .x) (omega arith) (omega arith) in
-    rw (start (c .before .before .before .before .before) .pre .0) at (c .nearest .ensures) ∙ sym (away (now (s .map)) (s .w) (s .y) (s .x) (omega arith) ∙ ap held there)
+    c .nearest .ensures ∙ sym (away (now (s .map)) (s .w) (s .y) (s .x) (omega arith) ∙ ap held there)
 
-pub near-at-place-spec : {M : Type 1} → statement M
-near-at-place-spec =
+pub near-at-spec : {M : Type 1} → statement M
+near-at-spec =
     tie.close
     (tie.spec
+    mul-p
+    add-p
     near-one-requires
     returns
     sub-near-one
