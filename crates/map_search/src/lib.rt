@@ -127,7 +127,8 @@ fn best_const(
     let mut c: usize = 0;
     while c < n {
         let next = constant(dists, rates, v, row, c);
-        let total = cells::total(next.cost, lambda);
+        let cost = next.cost;
+        let total = cells::total(cost, lambda);
         if total < least {
             best = next;
             least = total;

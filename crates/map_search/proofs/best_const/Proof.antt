@@ -53,14 +53,14 @@ loop-less c = omega arith
 loop-again : tie.Need-loop-again Inv-loop μ-loop
 unfolding cheapest constantsBy
 loop-again c =
-    let l = c .before .before .before .before .loop in
-    let a = c .before .before .before .before .before .before .args in
-    let next = c .before .before .constant .result in
-    let e : a .n - l .c ≡ suc (a .n - (l .c + 1)) = omega (arith, c .before .before .before .loop-test .taken) in
+    let l = c .before .before .before .before .before .loop in
+    let a = c .before .before .before .before .before .before .before .args in
+    let next = c .before .before .before .constant .result in
+    let e : a .n - l .c ≡ suc (a .n - (l .c + 1)) = omega (arith, c .before .before .before .before .loop-test .taken) in
     let kept = by-least (a .lambda) (l .least) (c .before .total2 .result) (c .if1 .least) (l .best) next (c .if1 .best) (l .inv .2)
     (c .before .total2 .ensures)
     (⊎-elim (λ w. inl (w .0 .taken, w .1, w .2)) (λ w. inr (w .0 .left, w .1, w .2)) (c .if1 .came)) in
-    (rw (kept .0, c .before .before .constant .ensures) (rw e at (l .inv .0)), omega arith, kept .1)
+    (rw (kept .0, c .before .before .before .constant .ensures) (rw e at (l .inv .0)), omega arith, kept .1)
 
 returns : tie.Need-returns Inv-loop μ-loop
 unfolding cheapest constantsBy
