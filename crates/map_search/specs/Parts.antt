@@ -42,7 +42,8 @@ constantsBy dists rates v row c zero = []
 constantsBy dists rates v row c (suc k) = constantBy dists rates v row c ∷ constantsBy dists rates v row (c + 1) k
 
 -- cell by cell up to the end of the line, or until the total has reached the limit; row is an f32
-pub record Halted (samples costs colours : List Float) (n : ℕ) (lambda : Float) (s : Scan) (m : List ℕ) (l : ℕ) (row limit : Float) (r : Cost) (map : List ℕ) : Type 0 where
+pub record Halted (samples costs colours : List Float) (n : ℕ) (lambda : Float) (s : Scan) (m : List ℕ) (l : ℕ) (row limit : Float)
+    (r : Cost) (map : List ℕ) : Type 0 where
   pub held : T (fits binary32 row)
   pub cells : ℕ
   pub few : cells ≤ s .len

@@ -72,7 +72,8 @@ loop-again c =
     let far = c .before .before .before .before .before .before .before .before .before .before in
     let l = far .before .loop in
     let a = c .add .ensures in
-    let k = rw (c .before .before .before .before .before .before .before .step-limit .ensures) at (c .before .before .before .before .before .before .take .ensures) in
+    let taken = c .before .before .before .before .before .before in
+    let k = rw (taken .before .step-limit .ensures) at (taken .take .ensures) in
     steps-turn _ _ _ _ (l .reached) (l .b) (l .last .0) (l .inv)
     (c .before .before .before .before .before .before .before .before .before .if1 .taken) _ k (c .before .before .before .if2 .left)
     (c .add .result) (a .1) (a .0) (far .before .before .before .pre .0)
