@@ -41,7 +41,7 @@ fn the_counted_copy_answers_as_the_original() {
     }
 }
 
-/// The map that is found is the last that was not stopped, so none behind it is better.
+/// A map that is found was not stopped, so its search reached every line.
 #[test]
 fn the_found_map_was_searched_to_its_last_line() {
     for block in all() {
@@ -137,4 +137,34 @@ fn the_crate_is_run_on_the_hatching() {
         read("stdout") == lines.as_bytes(),
         "stdout is not the original's"
     );
+}
+
+/// No contract can say that a function was called, so the two texts are read: each asks for the
+/// constants of a line in one place, behind the return of the first line.
+#[test]
+fn the_copy_asks_where_the_map_search_does() {
+    let map_search = source("../crates/map_search/src/lib.rt");
+    let copy = source("../crates/asking/src/main.rt");
+    // The map search's other asking is that of a cell tried by itself.
+    assert_eq!(map_search.matches("near_cell(").count(), 2);
+    assert_eq!(copy.matches("near_cell(").count(), 1);
+    for text in [body(&map_search, "fn first_near("), body(&copy, "fn ask(")] {
+        let (first, later) = text.split_once("    }\n").expect("the first line returns");
+        assert!(first
+            .trim_start()
+            .starts_with("if l == 0 {\n        return "));
+        assert!(!first.contains("near_cell("));
+        assert!(later.contains("scan::near_cell(map, s, l, 0)"));
+    }
+}
+
+fn source(path: &str) -> String {
+    fs::read_to_string(path).unwrap_or_else(|e| panic!("{path}: {e}"))
+}
+
+/// What stands between a function's braces.
+fn body<'a>(text: &'a str, head: &str) -> &'a str {
+    let (_, behind) = text.split_once(head).expect("the function is there");
+    let (_, body) = behind.split_once("\n{\n").expect("it has a body");
+    body.split_once("\n}\n").expect("it ends").0
 }

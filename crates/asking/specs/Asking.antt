@@ -19,7 +19,7 @@ module _ (samples costs colours : List Float) (n : ℕ) (lambda : Float) (s : Sc
   abbrev pub linesReached : List ℕ → List ℕ → ℕ
   linesReached map flags = reachedFrom (s .lines) 0 (started map flags)
 
--- exactly one asking in each line after the first that is reached, and none in the first
+-- as many askings as lines after the first that are reached, and none in the first
 pub record AskedOnce (r : Walked) (lines : ℕ) : Type 0 where
   pub reached : r .lines ≡ lines
   pub first : r .askings .first ≡ 0

@@ -1,11 +1,12 @@
 // A test copy of the map search that counts how often the context is asked for constant lines (document 02, L3).
 // The copy is `walk`, of `map_search::build_map` with `choose_line` and `line_best` opened, and `ask`, of `first_near`; it
 // carries the askings through, and all that is below them is the search's own. The contract of `walk` says the counts, of
-// every map; this program shows them.
-// It takes blocks as `replay_blocks` does, searches each through the sizes of the search, and prints a line for each map
-// search: the block's place, the number of colours, the orientation, the lines reached, the askings in the first line,
-// those in later lines, and 1 where the real map search gives the same map, flags, error and bits. The lines reached come
-// from the original with a counter, and the askings from document 02, never from here (oracle/README.md).
+// every map; that `ask` counts where it asks, and asks where `first_near` does, is to be read.
+// Around it stand copies of the search's walk through the sizes, which promise nothing: what they print is run.
+// The program takes blocks as `replay_blocks` does, and prints a line for each map search: the block's place, the number
+// of colours, the orientation, the lines reached, the askings in the first line, those in later lines, and 1 where the
+// real map search gives the same map, flags, error and bits. The expected lines reached come from the original with a
+// counter, and the expected askings from document 02, never from here (oracle/README.md).
 // Functions here may have a `requires`.
 use map_search::MapResult;
 use replaying::BlockHead;
@@ -53,15 +54,15 @@ fn counted(a: Askings, l: usize) -> Askings
     requires { ⌜ (a .first < 64) × (a .later < 64) ⌝ }
     ensures { λ r. ⌜ (r .first ≡ a .first + cond (eqb l 0) 1 0) × (r .later ≡ a .later + cond (eqb l 0) 0 1) ⌝ }
 {
-    if l == 0 {
+    if 0 < l {
         return Askings {
-            first: a.first + 1,
-            later: a.later,
+            first: a.first,
+            later: a.later + 1,
         };
     }
     Askings {
-        first: a.first,
-        later: a.later + 1,
+        first: a.first + 1,
+        later: a.later,
     }
 }
 
@@ -138,7 +139,7 @@ fn walk(
     }
 }
 
-// As `search::map_in`, with the copy.
+// A copy of `search::map_in`, with `walk`.
 fn walk_in(
     samples: &[f32],
     costs: &[f32],
@@ -213,7 +214,7 @@ fn print_search(place: u64, n: usize, transposed: bool, w: Walked, same: bool) {
     io::write_all(1, b"\n");
 }
 
-// The bound after a map search, as in `search::judge`.
+// The bound after a map search, a copy of what `search::judge` keeps.
 fn bound_after(bound: f32, b: Block, z: Size, found: MapResult) -> f32 {
     match found {
         MapResult::Beaten => bound,
@@ -296,7 +297,7 @@ fn count_scan(
     )
 }
 
-// As `search::try_size`.
+// A copy of `search::try_size`.
 fn count_size(place: u64, samples: &[f32], costs: &[f32], b: Block, z: Size, bound: f32) -> f32
     requires { ⌜ Passed (now samples) (now costs) b (b .width * b .height) 64 × (2 ≤ z .n) × (z .n ≤ 8) ⌝ }
 {
@@ -307,7 +308,7 @@ fn count_size(place: u64, samples: &[f32], costs: &[f32], b: Block, z: Size, bou
     count_scan(place, samples, costs, b, z, true, plain)
 }
 
-// The sizes as in `search::best_of`; there are at most seven.
+// A copy of `search::best_of`. There are at most seven sizes, each of 2 to `last` colours: these tests serve the proof.
 fn count_sizes(
     place: u64,
     samples: &[f32],
@@ -342,7 +343,7 @@ fn count_sizes(
     }
 }
 
-// A block of 2 to 32 levels that has passed the tests.
+// A copy of `search::search_in`: a block of 2 to 32 levels that has passed the tests.
 fn count_levels(place: u64, samples: &[f32], costs: &[f32], b: Block, h: groups::Histogram)
     requires { ⌜ Passed (now samples) (now costs) b (b .width * b .height) 64 ⌝ }
     requires { ⌜ (h ≡ histogramIn (now samples)) × (2 ≤ h .n) × (h .n ≤ 32) ⌝ }
@@ -353,7 +354,7 @@ fn count_levels(place: u64, samples: &[f32], costs: &[f32], b: Block, h: groups:
     count_sizes(place, samples, costs, b, h, &table, &cuts);
 }
 
-// The map searches of a block; none where the search refuses it.
+// The map searches of a block; none where the search, with room for every map, refuses it.
 fn count_block(place: u64, samples: &[f32], costs: &[f32], b: Block) {
     if search::fault(samples, costs, b, 4096, 64) != 0 {
         return;

@@ -5,7 +5,7 @@ ghost use Prim.Native.Nat.{_+_, _*_, _-_, _≤_, _<_};
 ghost use mathlib.Core.Bool.{cond};
 ghost use lib.Dec.{eqb};
 ghost use lib.ListN.{length, getD};
-ghost use lib.Ieee.{nan, binary32, add, lt};
+ghost use lib.Ieee.{nan, binary32, add};
 ghost use Rattle.context.specs.Map.{rowAt, colAt};
 ghost use Rattle.near.specs.Near.{rankBy, Below};
 ghost use Rattle.cells.specs.Cell.{square, totalOf, cheapest, eight};

@@ -9,7 +9,7 @@ use Rattle.context.specs.Map.{cell, rowAt, colAt}
 use Rattle.context.specs.Order.{Around, byThree, around, orderOf}
 use Rattle.scan.specs.declared.Scan.{Scan}
 use Rattle.scan.specs.Scan.{placeAt, cellIn, fill, aroundIn, Sound}
-use Rattle.scan.specs.LineBefore.{AgreeOn, FirstByLineBefore, FirstByNoFill}
+use Rattle.scan.specs.LineBefore.{FirstByLineBefore, FirstByNoFill}
 use Rattle.scan.proofs.Fill.{fill-other}
 
 -- where v alone comes first, the context is 0

@@ -4,6 +4,7 @@ use mathlib.Core.Bool.{Bool, true, false, cond}
 use mathlib.Core.List.{List}
 use Prim.Native.Nat.{ℕ, _*_, max, _≤_}
 use native.Mathlib.Omega.{arith}
+use native.Mathlib.Nat.{mul-le-mul}
 use borrow.Author.Tests.{eqb-true, eqb-false, ltb-false, leb-true, le-leb}
 use lib.Dec.{eqb, ltb, leb}
 use lib.ListN.{length}
@@ -12,6 +13,8 @@ use Rattle.lists.proofs.Choice.{passed, held, and-l, and-r}
 use Rattle.lists.proofs.Counted.{within-at}
 use Rattle.accept.specs.Accepted.{sidesOk, depthOk}
 use Rattle.accept.proofs.Accepted.{sides-at}
+use Rattle.context.specs.Map.{linesOf}
+use Rattle.scan.proofs.Scans.{lines-most}
 use Rattle.samples.specs.Samples.{lambdaOk, costsOk, samplesOk}
 use Rattle.sizes.specs.declared.Block.{Block}
 use Rattle.accept.specs.Answer.{roomsOk}
@@ -33,6 +36,14 @@ pub record Ready (samples costs : List Float) (b : Block) (cells lines : ℕ) : 
   pub room : b .width * b .height ≤ cells
   pub columns : b .width ≤ lines
   pub rows : b .height ≤ lines
+
+-- 4,096 cells and 64 lines hold every map
+module _ {samples costs : List Float} {b : Block} {cells lines : ℕ} (ready : Ready samples costs b cells lines) where
+  pub few-cells : b .width * b .height ≤ 4096
+  few-cells = mul-le-mul (ready .wideMost) (ready .highMost)
+
+  pub few-lines : (t : Bool) (count : ℕ) → count ≡ linesOf t (b .width) (b .height) → count ≤ 64
+  few-lines t count is = lines-most t (b .width) (b .height) 64 is (ready .wideMost) (ready .highMost)
 
 -- a fault that is 0 leaves what follows it; any other is the number itself
 no-fault : (fault next : ℕ) → cond (eqb fault 0) next fault ≡ 0 → (fault ≡ 0) × (next ≡ 0)

@@ -1,4 +1,5 @@
-// The search of a block: its tests, then the sizes in their order, each in both orientations.
+// The search of a block: its tests, then the sizes in their order, each in both orientations. Functions but `search` may
+// have a `requires`.
 use accept::Palette;
 use map_search::MapResult;
 use sizes::Block;

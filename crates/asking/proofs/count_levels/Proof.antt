@@ -20,9 +20,11 @@ tables-of-requires c κs =
 
 count-sizes-requires : tie.Need-count-sizes-requires
 count-sizes-requires c κs =
-    let s = c .before .before .before .before .before .before .before .before in
+    let tables = c .before .before .before .before in
+    let s = tables .before .before .before .before in
     let levels = s .pre .1 in
-    (known (ready-of (s .pre .0)) (levels .0) (levels .1) (levels .2) _ _ _ (c .before .before .before .before .before .last-size .ensures) (c .before .before .before .before .tables-of .ensures), s .pre .0)
+    let last = tables .before .last-size .ensures in
+    (known (ready-of (s .pre .0)) (levels .0) (levels .1) (levels .2) _ _ _ last (tables .tables-of .ensures), s .pre .0)
 
 returns : tie.Need-returns
 returns c = search needs

@@ -47,9 +47,12 @@ size-of-requires c κs = search needs
 count-size-requires : tie.Need-count-size-requires Inv-loop μ-loop
 count-size-requires c κs =
     let is = c .size-of .ensures in
-    let k = c .before .before .before .before .next-size .result in
-    let few : k ≤ 8 = omega (arith, c .before .before .if2 .left, c .before .before .before .before .before .before .before .before .before .before .last-size .ensures, min-le-left 8 (c .before .before .before .before .before .before .before .before .before .before .before .before .before .before .args .h .n)) in
-    (c .before .before .before .before .before .before .before .before .before .before .before .before .before .before .pre .1, rw is (c .before .before .before .if1 .left), rw is few)
+    let tested = c .before .before .before in
+    let last = tested .before .before .before .before .before .before .before in
+    let s = last .before .before .before .before in
+    let k = tested .before .next-size .result in
+    let few : k ≤ 8 = omega (arith, c .before .before .if2 .left, last .last-size .ensures, min-le-left 8 (s .args .h .n)) in
+    (s .pre .1, rw is (tested .if1 .left), rw is few)
 
 array-write-left : tie.Need-array-write-left Inv-loop μ-loop
 array-write-left c = search needs

@@ -31,11 +31,14 @@ abbrev μ-loop : tie.MeasureT-loop
 
 -- after the costs were added, one line more
 module _ (c : tie.After-plus Inv-loop μ-loop) where
-  abbrev start : tie.Start Inv-loop μ-loop
-  start = c .before .before .before .before .before .before .before .before .before .before .before .before .before .before .before .before .before .before .before
-
   abbrev inside : tie.Then1 Inv-loop μ-loop
   inside = c .before .before .before .before .before .before .before .before .before .before .before .before
+
+  abbrev start : tie.Start Inv-loop μ-loop
+  start = inside .before .before .before .before .before .before .before
+
+  abbrev asked : tie.After-ask Inv-loop μ-loop
+  asked = c .before .before .before .before .before .before .before .before .before .before
 
   abbrev chosen : Choice
   chosen = c .before .before .before .before .choose-from .result
@@ -97,11 +100,11 @@ module _ (c : tie.After-plus Inv-loop μ-loop) where
   flags-kept = line .flags-kept ∙ inside .before .before .loop .inv .2
 
   -- the askings, this line's among them
-  none-first : c .before .before .before .before .before .before .before .before .before .before .ask .result .askings .first ≡ 0
-  none-first = c .before .before .before .before .before .before .before .before .before .before .ask .ensures .1 .0 ∙ inside .before .before .loop .inv .7
+  none-first : asked .ask .result .askings .first ≡ 0
+  none-first = asked .ask .ensures .1 .0 ∙ inside .before .before .loop .inv .7
 
-  one-later : c .before .before .before .before .before .before .before .before .before .before .ask .result .askings .later ≡ at
-  one-later = c .before .before .before .before .before .before .before .before .before .before .ask .ensures .1 .1 ∙ asked-more _ at (inside .before .before .loop .inv .8)
+  one-later : asked .ask .result .askings .later ≡ at
+  one-later = asked .ask .ensures .1 .1 ∙ asked-more _ at (inside .before .before .loop .inv .8)
 
 loop-holds : tie.Need-loop-holds Inv-loop μ-loop
 loop-holds c = (rw sub-zero refl, refl, refl, c .before .before .before .before .pre .1 .3, omega arith, omega arith, rw sub-zero refl, refl, omega arith)

@@ -1,13 +1,13 @@
 use mathlib.Core.Path.{_≡_, _∙_}
 use mathlib.Core.List.{List}
 use Prim.Native.Nat.{ℕ, _*_, _≤_}
-use native.Mathlib.Nat.{lt-of-le-of-lt, mul-le-mul, min-le-left}
+use native.Mathlib.Nat.{lt-of-le-of-lt, min-le-left}
 use denote.Ref.{now}
 use lib.Dec.{lit<}
 use lib.ListN.{length}
 use Rattle.scan.proofs.Scans.{lines-most}
 use Rattle.search.proofs.Colors.{levelsIn, is-histogram}
-use Rattle.search.proofs.Passed.{ready-of}
+use Rattle.search.proofs.Passed.{ready-of, few-cells, few-lines}
 use Rattle.search.proofs.Aside.{take-fits, passed-aside, known, written-found, as-palette}
 use borrow.Author.Needs.{needs}
 use Rattle.search.proofs.search_in.Statement.{statement}
@@ -26,9 +26,6 @@ lines c = c .best-of .last .1 .1 .1 .1 .1 .1 .1 .0
 abbrev best : tie.After-lines-of → tie.After-best-of
 best c = c .before .before .before .before .before .before .before .before .before .before .before .before
 
-few-cells : (c : tie.After-best-of) → start c .args .b .width * start c .args .b .height ≤ 4096
-few-cells c = mul-le-mul (ready-of (start c .pre .0 .0) .wideMost) (ready-of (start c .pre .0 .0) .highMost)
-
 -- they have as many places as before
 all-places : (c : tie.After-best-of) → length (cells c) ≡ 4096
 all-places c = c .best-of .kept .1 .1 .1 .1 .1 .1 .0 ∙ start c .pre .0 .1
@@ -38,7 +35,7 @@ all-lines c = c .best-of .kept .1 .1 .1 .1 .1 .1 .1 .0 ∙ start c .pre .0 .2
 
 cells-fit : (c : tie.After-best-of) → let a = start c .args in
     (a .b .width * a .b .height ≤ length (cells c)) × (a .b .width * a .b .height ≤ length (now (a .map)))
-cells-fit c = (rw (all-places c) (few-cells c), ready-of (start c .pre .0 .0) .room)
+cells-fit c = (rw (all-places c) (few-cells (ready-of (start c .pre .0 .0))), ready-of (start c .pre .0 .0) .room)
 
 lines-fit : (c : tie.After-lines-of)
     → (c .lines-of .result ≤ length (lines (best c))) × (c .lines-of .result ≤ length (now (start (best c) .args .flags)))
@@ -48,7 +45,7 @@ lines-fit c =
     let t = best c .best-of .result .transposed in
     let w = a .b .width in
     let h = a .b .height in (
-      rw (all-lines (best c)) (lines-most t w h 64 (c .lines-of .ensures) (r .wideMost) (r .highMost)),
+      rw (all-lines (best c)) (few-lines r t _ (c .lines-of .ensures)),
       lines-most t w h (length (now (a .flags))) (c .lines-of .ensures) (r .columns) (r .rows),
     )
 
@@ -75,7 +72,7 @@ best-of-requires c κs =
 
 mul-copy-bytes : tie.Need-mul-copy-bytes
 mul-copy-bytes c =
-    let few = few-cells (c .before .before .before .before .before .before) in
+    let few = few-cells (ready-of (start (c .before .before .before .before .before .before) .pre .0 .0)) in
     record { fits = lt-of-le-of-lt few (lit< tt) }
 
 copy-bytes-requires : tie.Need-copy-bytes-requires

@@ -1,55 +1,50 @@
 use mathlib.Core.Path.{sym, ap, _∙_}
 use lib.Seq.{length-take-le}
 use Prim.Native.Nat.{ℕ, _*_, _≤_}
-use native.Mathlib.Nat.{mul-le-mul, lt-of-le-of-lt}
+use native.Mathlib.Nat.{lt-of-le-of-lt}
 use lib.Dec.{lit<}
 use lib.ListN.{replicate}
 use Rattle.lists.proofs.Zeros.{take-zeros}
-use Rattle.scan.proofs.Scans.{lines-most}
 use borrow.Author.Needs.{needs}
-use Rattle.search.proofs.Passed.{ready-of}
+use Rattle.search.proofs.Passed.{ready-of, few-cells, few-lines}
 use Rattle.search.proofs.try_scan.Statement.{statement}
 use Rattle.search.proofs.try_scan.Tie as tie
 
 -- the cells and the lines are at most as many as the buffers' places
-few-cells : (s : tie.Start) → s .args .b .width * s .args .b .height ≤ 4096
-few-cells s =
-    let r = ready-of (s .pre .0) in
-    mul-le-mul (r .wideMost) (r .highMost)
+cells-fit : (s : tie.Start) → s .args .b .width * s .args .b .height ≤ 4096
+cells-fit s = few-cells (ready-of (s .pre .0))
 
-few-lines : (c : tie.After-lines-of) → c .lines-of .result ≤ 64
-few-lines c =
+lines-fit : (c : tie.After-lines-of) → c .lines-of .result ≤ 64
+lines-fit c =
     let s = c .before .before .before .before .before in
-    let b = s .args .b in
-    let r = ready-of (s .pre .0) in
-    lines-most (s .args .transposed) (b .width) (b .height) 64 (c .lines-of .ensures) (r .wideMost) (r .highMost)
+    few-lines (ready-of (s .pre .0)) (s .args .transposed) _ (c .lines-of .ensures)
 
 lines-of-requires : tie.Need-lines-of-requires
 lines-of-requires c κs = search needs
 
 mul-cells : tie.Need-mul-cells
-mul-cells c = record { fits = lt-of-le-of-lt (few-cells (c .before .before .before .before .before .before)) (lit< tt) }
+mul-cells c = record { fits = lt-of-le-of-lt (cells-fit (c .before .before .before .before .before .before)) (lit< tt) }
 
 array-borrow-prefix-cells : tie.Need-array-borrow-prefix-cells
-array-borrow-prefix-cells c = few-cells (c .before .before .before .before .before .before)
+array-borrow-prefix-cells c = cells-fit (c .before .before .before .before .before .before)
 
 slice-aggregate-try-in : tie.Need-slice-aggregate-try-in
 slice-aggregate-try-in c =
-    let few = few-cells (c .before .before .before .before .before .before .before) in
+    let few = cells-fit (c .before .before .before .before .before .before .before) in
     sym (length-take-le {A = ℕ} _ (replicate 4096 0) few)
 
 array-borrow-prefix-lines : tie.Need-array-borrow-prefix-lines
-array-borrow-prefix-lines c = few-lines (c .before .before)
+array-borrow-prefix-lines c = lines-fit (c .before .before)
 
 slice-aggregate-try-in-2 : tie.Need-slice-aggregate-try-in-2
-slice-aggregate-try-in-2 c = sym (length-take-le {A = ℕ} _ (replicate 64 0) (few-lines (c .before .before .before)))
+slice-aggregate-try-in-2 c = sym (length-take-le {A = ℕ} _ (replicate 64 0) (lines-fit (c .before .before .before)))
 
 try-in-requires : tie.Need-try-in-requires
 try-in-requires c κs =
     let l = c .before .before .before .before .before in
     let s = l .before .before .before .before .before in
-    let lines = take-zeros _ 64 (few-lines l) ∙ ap (λ k. replicate {A = ℕ} k 0) (l .lines-of .ensures) in
-    (s .pre, (take-zeros _ 4096 (few-cells s), lines))
+    let lines = take-zeros _ 64 (lines-fit l) ∙ ap (λ k. replicate {A = ℕ} k 0) (l .lines-of .ensures) in
+    (s .pre, (take-zeros _ 4096 (cells-fit s), lines))
 
 same-length : tie.Need-same-length
 same-length c = search needs
