@@ -33,7 +33,9 @@ taken-by-requires-3 : tie.Need-taken-by-requires-3
 taken-by-requires-3 c κs = search needs
 
 returns : tie.Need-returns
-returns c = rw (c .taken-by .ensures) (took-second _ _ _ _ _ _ (rw (c .before .before .second .given .1) at (c .before .before .before .before .step-in .ensures)))
+returns c =
+    let second = c .before .before in
+    rw (c .taken-by .ensures) (took-second _ _ _ _ _ _ (rw (second .second .given .1) at (second .before .before .step-in .ensures)))
 
 returns-2 : tie.Need-returns-2
 returns-2 c = rw (c .taken-by2 .ensures) (took-ended _ _ _ _ _ (rw (c .before .enum-told .given .1) at (c .before .before .before .step-in .ensures)))
