@@ -42,6 +42,10 @@ module _ {samples costs : List Float} {b : Block} {cells lines : ℕ} (ready : R
   pub few-cells : b .width * b .height ≤ 4096
   few-cells = mul-le-mul (ready .wideMost) (ready .highMost)
 
+  -- what the histogram asks
+  pub countable : (8 ≤ b .bd) × (b .bd ≤ 12) × (length samples ≤ 4096) × (samplesOk (b .bd) samples ≡ true)
+  countable = (ready .deep, ready .deepMost, omega (arith, ready .count, few-cells), ready .sampled)
+
   pub few-lines : (t : Bool) (count : ℕ) → count ≡ linesOf t (b .width) (b .height) → count ≤ 64
   few-lines t count is = lines-most t (b .width) (b .height) 64 is (ready .wideMost) (ready .highMost)
 

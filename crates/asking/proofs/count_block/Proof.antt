@@ -1,11 +1,10 @@
 use mathlib.Core.Path.{sym, _∙_}
-use Prim.Native.Nat.{_*_, _≤_}
-use native.Mathlib.Nat.{le-refl, mul-le-mul}
+use native.Mathlib.Nat.{le-refl}
 use native.Mathlib.Omega.{arith}
 use denote.Ref.{now}
 use borrow.Author.Needs.{needs}
 use Rattle.search.specs.Steps.{Passed}
-use Rattle.search.proofs.Passed.{ready-of, passed-with, levels-of-zero}
+use Rattle.search.proofs.Passed.{ready-of, countable, passed-with, levels-of-zero}
 use Rattle.asking.proofs.count_block.Statement.{statement}
 use Rattle.asking.proofs.count_block.Tie as tie
 
@@ -19,11 +18,7 @@ returns : tie.Need-returns
 returns c = search needs
 
 histogram-of-requires : tie.Need-histogram-of-requires
-histogram-of-requires c κs =
-    let r = ready-of (passed c) in
-    let b = c .before .before .before .before .args .b in
-    let few : b .width * b .height ≤ 64 * 64 = mul-le-mul (r .wideMost) (r .highMost) in
-    (r .deep, r .deepMost, omega (arith, r .count), r .sampled)
+histogram-of-requires c κs = countable (ready-of (passed c))
 
 levels-fault-requires : tie.Need-levels-fault-requires
 levels-fault-requires c κs = search needs

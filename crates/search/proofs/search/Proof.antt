@@ -1,13 +1,10 @@
 use mathlib.Core.Path.{_≡_, sym, ap, _∙_}
-use Prim.Native.Nat.{_*_, _≤_}
-use native.Mathlib.Omega.{arith}
-use native.Mathlib.Nat.{mul-le-mul}
 use denote.Ref.{now}
 use lib.ListN.{length}
 use Rattle.sizes.specs.declared.Block.{Block}
 use Rattle.search.specs.Search.{levelsFault, searchNumber}
 use Rattle.search.specs.Steps.{Passed}
-use Rattle.search.proofs.Passed.{ready-of, levels-of-zero}
+use Rattle.search.proofs.Passed.{ready-of, countable, levels-of-zero}
 use Rattle.search.proofs.Answer.{refuses, answers, number-first, number-second}
 use borrow.Author.Needs.{needs}
 use Rattle.search.proofs.search.Statement.{statement}
@@ -54,10 +51,7 @@ returns c =
     (c .refuse .ensures)
 
 histogram-of-requires : tie.Need-histogram-of-requires
-histogram-of-requires c κs =
-    let r = ready-of (passed c) in
-    let few : start c .args .width * start c .args .height ≤ 64 * 64 = mul-le-mul (r .wideMost) (r .highMost) in
-    (r .deep, r .deepMost, omega (arith, r .count), r .sampled)
+histogram-of-requires c κs = countable (ready-of (passed c))
 
 levels-fault-requires : tie.Need-levels-fault-requires
 levels-fault-requires c κs = search needs
