@@ -1,4 +1,5 @@
 pub mod Words
+pub mod Sent
 pub mod Levels
 pub mod Colors
 pub mod Widths
