@@ -4,6 +4,7 @@ pub mod Cells
 pub mod Colors
 pub mod Length
 pub mod Lines
+pub mod Inside
 pub mod Raw
 pub mod RawFew
 pub mod Splits

@@ -1,5 +1,5 @@
 -- What a map's words add to the raw width: the orientation bit, and the uniform call of cell (0,0). Assumes nothing.
-use mathlib.Core.Path.{_≡_, refl}
+use mathlib.Core.Path.{_≡_, refl, ap}
 use mathlib.Core.Bool.{Bool, true, false, cond}
 use mathlib.Core.List.{List, [], _∷_, _++_}
 use Prim.Native.Nat.{ℕ, zero, suc, _+_, _*_, _-_, _≤_, _<_}
@@ -9,15 +9,18 @@ use borrow.Author.Tests.{ne-eqb}
 use Rattle.lists.specs.Counted.{upTo, bit}
 use Rattle.lists.proofs.Choice.{cond-same}
 use Rattle.lists.proofs.Counted.{bit-most}
-use Rattle.counts.specs.Counts.{ceilLog2, orientSent}
+use Rattle.counts.specs.Counts.{orientSent}
 use Rattle.context.specs.Map.{cell, rowAt, colAt, linesOf, lengthOf}
 use Rattle.context.specs.Order.{byThree, around, rankOf}
 use Rattle.context.proofs.Around.{around-ok, around-ctx}
 use Rattle.context.proofs.Order.{rank-below}
 use Rattle.literals.specs.Words.{word, rawBits, rawWidth}
 use Rattle.literals.proofs.Words.{raw-word}
+use Rattle.accept.specs.Palette.{Palette}
+use Rattle.accept.proofs.Accepted.{Facts, lines-pos, flag, first-flag}
 use Rattle.emit.specs.Map.{LinesInside, rankedWord, cellWord, lineWord, rowContext, sentCells, lineWords, orientWords, mapWords}
 use Rattle.emit.proofs.Lines.{sent-few}
+use Rattle.listing.proofs.Inside.{inside, long}
 
 pub raw-append : (us vs : List ℕ) → rawWidth (us ++ vs) ≡ rawWidth us + rawWidth vs
 unfolding rawWidth
@@ -69,15 +72,15 @@ module _ (map : List ℕ) (w n : ℕ) (t : Bool) (lines len : ℕ) (inside : Lin
   raw-cell l a g h after =
       raw-ranked (rowAt t l a) (colAt t l a) (not-first t l a after) (inside .column l a g h) (inside .place l a g h)
 
-  -- the call of cell (0,0), first in the first line of either orientation
-  raw-start : 0 < length map → rawBits (cellWord 5 byThree n map w 0 0) ≡ ceilLog2 n
-  unfolding cellWord cell
-  raw-start some =
-      let low : getD map (0 * w + 0) 0 < n = inside .below (0 * w + 0) (omega arith) in
-      raw-word 2 n (getD map (0 * w + 0) 0) (omega (arith, inside .eight)) (omega (arith, inside .eight, low))
+  -- the uniform call of cell (0,0), first in the first line of either orientation
+  abbrev uniform : ℕ
+  uniform = word 2 n (getD map 0 0)
 
-  raw-uniform : 0 < lines → 0 < len → rawBits (lineWord n t map w 0 0) ≡ ceilLog2 n
-  raw-uniform g h = rw (cond-same {A = ℕ} t 0) (raw-start (omega (arith, inside .place 0 0 g h)))
+  raw-uniform : rawBits (lineWord n t map w 0 0) ≡ rawBits uniform
+  unfolding cellWord cell
+  raw-uniform =
+      let front : 0 * w + 0 ≡ 0 = omega arith in
+      rw (cond-same {A = ℕ} t 0) (ap (λ (k : ℕ). rawBits (word 2 n (getD map k 0))) front)
 
   module _ (flags : List ℕ) (small : (l : ℕ) → l < lines → getD flags l 0 ≤ 2) (long : 1 ≤ len) where
     context-small : (l : ℕ) → l < lines → rowContext flags l < 256
@@ -98,16 +101,16 @@ module _ (map : List ℕ) (w n : ℕ) (t : Bool) (lines len : ℕ) (inside : Lin
         (λ a h. omega (arith, raw-cell l a g (omega (arith, sent-few (getD flags l 0) len long)) (omega arith))) in
         omega (arith, raw-flag l g, cells)
 
-    raw-first-line : 0 < lines → getD flags 0 0 ≤ 1 → rawWidth (lineWords n t flags map w len 0) ≡ ceilLog2 n
+    raw-first-line : 0 < lines → getD flags 0 0 ≤ 1 → rawWidth (lineWords n t flags map w len 0) ≡ rawBits uniform
     unfolding lineWords rawWidth
     raw-first-line g first =
         let sent = sentCells (getD flags 0 0) len in
         let cells : rawWidth (upTo (λ a. lineWord n t map w 0 a ∷ []) sent) ≡ rawBits (lineWord n t map w 0 0) + 0 =
         raw-first (λ a. lineWord n t map w 0 a ∷ []) sent (sends-first (getD flags 0 0) len first long)
         (λ a later h. omega (arith, raw-cell 0 a g (omega (arith, sent-few (getD flags 0 0) len long)) (omega arith))) in
-        omega (arith, raw-flag 0 g, cells, raw-uniform g (omega arith))
+        omega (arith, raw-flag 0 g, cells, raw-uniform)
 
-    raw-lines : 0 < lines → getD flags 0 0 ≤ 1 → rawWidth (upTo (lineWords n t flags map w len) lines) ≡ ceilLog2 n
+    raw-lines : 0 < lines → getD flags 0 0 ≤ 1 → rawWidth (upTo (lineWords n t flags map w len) lines) ≡ rawBits uniform
     raw-lines g first =
         omega (arith, raw-first (lineWords n t flags map w len) lines g raw-line, raw-first-line g first)
 
@@ -119,15 +122,20 @@ raw-orient w h t = go (orientSent w h)
     go true = omega (arith, raw-word 1 1 (bit t) (omega arith) (omega (arith, bit-most t)))
     go false = refl
 
-pub raw-map : (map : List ℕ) (w h n : ℕ) (t : Bool) (flags : List ℕ)
-    → LinesInside map w n t (linesOf t w h) (lengthOf t w h)
-    → ((l : ℕ) → l < linesOf t w h → getD flags l 0 ≤ 2) → getD flags 0 0 ≤ 1 → 0 < linesOf t w h → 1 ≤ lengthOf t w h
-    → rawWidth (mapWords n t flags map w h) ≡ bit (orientSent w h) + ceilLog2 n
+-- in the map of an accepted palette
+pub raw-map : (w h bd : ℕ) (p : Palette) → Facts w h bd p
+    → rawWidth (mapWords (length (p .colors)) (p .transposed) (p .flags) (p .map) w h)
+    ≡ bit (orientSent w h) + rawBits (word 2 (length (p .colors)) (getD (p .map) 0 0))
 unfolding mapWords
-raw-map map w h n t flags inside small first some long =
+raw-map w h bd p f =
+    let t = p .transposed in
+    let n = length (p .colors) in
+    let lines = linesOf t w h in
+    let len = lengthOf t w h in
     omega (
       arith,
-      raw-append (orientWords w h t) (upTo (lineWords n t flags map w (lengthOf t w h)) (linesOf t w h)),
+      raw-append (orientWords w h t) (upTo (lineWords n t (p .flags) (p .map) w len) lines),
       raw-orient w h t,
-      raw-lines map w n t (linesOf t w h) (lengthOf t w h) inside flags small long some first,
+      raw-lines (p .map) w n t lines len (inside w h bd p f) (p .flags) (flag w h bd p f) (long w h bd p f) (lines-pos w h bd p f)
+      (first-flag w h bd p f),
     )

@@ -1,37 +1,26 @@
 -- A list's raw width is small: a bound that is easily had, not the least one. Assumes nothing.
-use Prim.Native.Nat.{ℕ, _+_, _*_, _/_, _%_, _^_, _≤_, _-_}
+use Prim.Native.Nat.{ℕ, _+_, _*_, _-_, _≤_, _<_}
 use mathlib.Core.List.{List, [], _∷_}
 use native.Mathlib.Omega.{arith}
-use lib.Dec.{eqb}
-use lib.ListN.{length}
+use lib.ListN.{length, getD}
 use borrow.Author.Tests.{leb-true}
 use Rattle.lists.specs.Counted.{bit, elem}
-use Rattle.lists.proofs.Choice.{either-way}
 use Rattle.lists.proofs.Counted.{bit-most}
 use Rattle.counts.specs.Counts.{orientSent}
-use Rattle.counts.proofs.Log.{ceil-least}
-use Rattle.context.specs.Map.{linesOf, lengthOf}
+use Rattle.counts.proofs.Uniform.{uniform-below}
 use Rattle.literals.specs.Words.{word, rawBits, rawWidth}
 use Rattle.literals.specs.Literals.{literalWords}
-use Rattle.literals.proofs.Words.{raw-word}
+use Rattle.literals.proofs.Words.{raw-word, bits-most}
 use Rattle.literals.proofs.Widths.{length-literals}
 use Rattle.accept.specs.Palette.{Palette}
 use Rattle.accept.specs.Accepted.{cacheOk, Accepted}
-use Rattle.accept.proofs.Accepted.{facts, lines-pos, flag, first-flag}
-use Rattle.accept.proofs.Lines.{in-block}
+use Rattle.accept.proofs.Accepted.{facts}
 use Rattle.emit.specs.Colors.{remove, cacheWords, untaken, colorWords}
-use Rattle.emit.specs.Map.{LinesInside, mapWords}
+use Rattle.emit.specs.Map.{mapWords}
 use Rattle.emit.proofs.Untaken.{untaken-few}
 use Rattle.listing.specs.Listing.{callList}
+use Rattle.listing.proofs.Inside.{some-cell}
 use Rattle.listing.proofs.Raw.{raw-append, raw-map}
-
-bits-most : (c : ℕ) → rawBits c ≤ 255
-unfolding rawBits
-bits-most c =
-    let small : ℕ → Type 0 = λ n. n ≤ 255 in
-    let first = c / 2 ^ 16 % 256 in
-    either-way small (eqb (c / 2 ^ 24) 1) _ _ (omega arith)
-    (either-way small (eqb (c / 2 ^ 24) 2) _ _ (omega (arith, ceil-least first 8 (omega arith))) (omega arith))
 
 raw-most : (ws : List ℕ) → rawWidth ws ≤ 255 * length ws
 unfolding rawWidth
@@ -65,25 +54,17 @@ pub raw-few : (w h bd : ℕ) (cache : List ℕ) (p : Palette) → Accepted w h b
 unfolding callList cacheOk
 raw-few w h bd cache p a =
     let f = facts w h bd cache p a in
-    let t = p .transposed in
-    let block = in-block t w h in
-    let inside : LinesInside (p .map) w (length (p .colors)) t (linesOf t w h) (lengthOf t w h) =
-    record {
-      two = f .enough;
-      eight = f .few;
-      column = λ l a p q. block l a p q .column;
-      place = λ l a p q. omega (arith, block l a p q .place, f .mapLength);
-      below = λ i p. f .index i (omega (arith, f .mapLength));
-    } in
-    let long : 1 ≤ lengthOf t w h = either-way (λ k. 1 ≤ k) t h w (f .high) (f .wide) in
-    let map = raw-map (p .map) w h (length (p .colors)) t (p .flags) inside (flag _ _ _ _ f) (first-flag _ _ _ _ f) (lines-pos _ _ _ _ f) long in
+    let n = length (p .colors) in
+    let first = getD (p .map) 0 0 in
+    let low : first < n = f .index 0 (omega (arith, some-cell w h bd p f, f .mapLength)) in
     omega (
       arith,
-      raw-append (colorWords bd cache (p .colors)) (mapWords (length (p .colors)) t (p .flags) (p .map) w h),
+      raw-append (colorWords bd cache (p .colors)) (mapWords n (p .transposed) (p .flags) (p .map) w h),
       colors-raw bd cache (p .colors),
-      map,
+      raw-map w h bd p f,
       bit-most (orientSent w h),
-      ceil-least (length (p .colors)) 3 (f .few),
+      raw-word 2 n first (omega (arith, f .few)) (omega (arith, low, f .few)),
+      uniform-below first n 3 low (f .few),
       f .few,
       leb-true (length cache) 64 (a .cacheLength),
     )

@@ -11,8 +11,8 @@ ghost use lib.Ieee.{binary32, ofInt};
 ghost use lib.ListN.{length, take, drop, getD};
 ghost use Rattle.lists.specs.Counted.{bit};
 ghost use Rattle.lists.specs.Written.{written};
-ghost use Rattle.counts.specs.Counts.{ceilLog2, orientSent};
-ghost use Rattle.literals.specs.Words.{rawBits, rawWidth};
+ghost use Rattle.counts.specs.Counts.{orientSent};
+ghost use Rattle.literals.specs.Words.{word, rawBits, rawWidth};
 ghost use Rattle.accept.specs.Palette.{paletteOf};
 ghost use Rattle.accept.specs.Accepted.{Accepted};
 ghost use Rattle.listing.specs.Listing.{callList, Lists, refusedBy, valuesOf, Predicts};
@@ -40,11 +40,12 @@ fn raw_bits(word: u32) -> u32
 {
     let kind = word / 16777216;
     let first = word / 65536 % 256;
+    let second = word % 65536;
     if kind == 1 {
         return first;
     }
     if kind == 2 {
-        return counts::ceil_log2(first);
+        return counts::uniform_bits(second, first);
     }
     0
 }
@@ -64,11 +65,11 @@ fn raw_width(words: &[u32], count: usize) -> u32
 }
 
 // What the map's words add to the raw width: the orientation bit where it is sent, and the uniform call of cell (0,0).
-fn map_raw_width(width: usize, height: usize, n: usize) -> u32
+fn map_raw_width(width: usize, height: usize, n: usize, first: Index) -> u32
     requires { ⌜ n ≤ 8 ⌝ }
-    ensures { λ r. ⌜ (r ≡ bit (orientSent width height) + ceilLog2 n) × (r ≤ 4) ⌝ }
+    ensures { λ r. ⌜ (r ≡ bit (orientSent width height) + rawBits (word 2 n (first .0))) × (r ≤ 256) ⌝ }
 {
-    let uniform = counts::ceil_log2(n as u32);
+    let uniform = raw_bits(literals::call(2, n as u32, first.0 as u32));
     if counts::orient_sent(width, height) {
         return 1 + uniform;
     }
@@ -101,7 +102,8 @@ fn emit_list(
     let at = emit::emit_colors(colors, n, bd, cache, out, 0);
     let before = raw_width(out, at);
     let count = emit::emit_map(map, flags, width, height, n, transposed, out, at);
-    let raw = before + map_raw_width(width, height, n);
+    let first = Index(map[0]);
+    let raw = before + map_raw_width(width, height, n, first);
     Listed {
         number: 0,
         count,

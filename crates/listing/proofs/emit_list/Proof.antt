@@ -3,23 +3,22 @@ use mathlib.Core.Path.{_≡_, refl, ap, _∙_}
 use mathlib.Core.List.{List, _++_}
 use native.Mathlib.Nat.{mul-le-mul}
 use native.Mathlib.Omega.{arith}
-use lib.ListN.{length, take, length-append}
+use lib.ListN.{length, take, getD, length-append}
 use borrow.Author.Needs.{needs}
 use borrow.Kind.Array.{good-length, eInt}
 use mir.Syntax.{w16}
-use Rattle.lists.proofs.Choice.{either-way}
 use Rattle.lists.specs.Counted.{bit}
 use Rattle.lists.proofs.Written.{written-append, written-take}
-use Rattle.counts.specs.Counts.{ceilLog2, orientSent}
+use Rattle.counts.specs.Counts.{orientSent}
 use Rattle.context.specs.Map.{linesOf, lengthOf}
-use Rattle.literals.specs.Words.{rawWidth}
+use Rattle.literals.specs.Words.{word, rawBits, rawWidth}
 use Rattle.accept.specs.Palette.{Palette, firstColors, paletteOf}
-use Rattle.accept.proofs.Accepted.{Facts, facts, lines-pos, flag, first-flag}
+use Rattle.accept.proofs.Accepted.{Facts, facts}
 use Rattle.accept.proofs.Levels.{first-colors, length-first}
-use Rattle.accept.proofs.Lines.{in-block}
 use Rattle.emit.specs.Colors.{colorWords}
 use Rattle.emit.specs.Map.{LinesInside, mapWords}
 use Rattle.listing.specs.Listing.{callList}
+use Rattle.listing.proofs.Inside.{inside, long, some-cell}
 use Rattle.listing.proofs.Length.{list-few}
 use Rattle.listing.proofs.Raw.{raw-append, raw-map}
 use Rattle.listing.proofs.emit_list.Statement.{statement}
@@ -60,32 +59,16 @@ module _ (s : tie.Start) where
   room : length colors + length map ≤ length (s .args .out .now)
   room = omega (arith, s .pre .1 .1, list-few _ _ _ _ _ (s .pre .0), sum)
 
-  long : 1 ≤ lengthOf (s .args .transposed) (s .args .width) (s .args .height)
-  long = either-way (λ k. 1 ≤ k) (s .args .transposed) (s .args .height) (s .args .width) (known .high) (known .wide)
-
-  inside : LinesInside (s .args .map .now) (s .args .width) (s .args .n) (s .args .transposed)
+  lines-inside : LinesInside (s .args .map .now) (s .args .width) (s .args .n) (s .args .transposed)
       (linesOf (s .args .transposed) (s .args .width) (s .args .height)) (lengthOf (s .args .transposed) (s .args .width) (s .args .height))
-  inside =
-      let f = known in
-      let block = in-block (s .args .transposed) (s .args .width) (s .args .height) in
-      record {
-        two = rw count at (f .enough);
-        eight = s .pre .1 .0;
-        column = λ l a p q. block l a p q .column;
-        place = λ l a p q. omega (arith, block l a p q .place, f .mapLength);
-        below = λ i p. rw count at (f .index i (omega (arith, f .mapLength)));
-      }
+  lines-inside = rw count at (inside _ _ _ _ known)
 
   cells-few : length (s .args .map .now) ≤ 4096
   cells-few = let f = known in omega (arith, f .mapLength, mul-le-mul (f .wideMost) (f .highMost))
 
-  raw : rawWidth list ≡ rawWidth colors + (bit (orientSent (s .args .width) (s .args .height)) + ceilLog2 (s .args .n))
-  raw =
-      let f = known in
-      let t = s .args .transposed in
-      let width = raw-map (s .args .map .now) (s .args .width) (s .args .height) (s .args .n) t (s .args .flags .now) inside
-      (flag _ _ _ _ f) (first-flag _ _ _ _ f) (lines-pos _ _ _ _ f) long in
-      ap rawWidth parts ∙ raw-append colors map ∙ ap (λ (k : ℕ). rawWidth colors + k) width
+  raw : rawWidth list
+      ≡ rawWidth colors + (bit (orientSent (s .args .width) (s .args .height)) + rawBits (word 2 (s .args .n) (getD (s .args .map .now) 0 0)))
+  raw = ap rawWidth parts ∙ raw-append colors map ∙ ap (λ (k : ℕ). rawWidth colors + k) (rw count at (raw-map _ _ _ _ known))
 
 -- the colours stand in front
 module _ (c : tie.After-emit-colors) where
@@ -126,14 +109,17 @@ emit-map-requires c κs =
     let s = start e in
     let h : e .emit-colors .result + length (map s) ≤ length (out e) =
     omega (arith, room s, e .emit-colors .ensures .0, e .emit-colors .kept .1 .1 .1 .1 .0) in
-    ((inside s, known s .wideMost, cells-few s), ((long s, omega (arith, known s .flagLength)), h))
+    ((lines-inside s, known s .wideMost, cells-few s), ((long _ _ _ _ (known s), omega (arith, known s .flagLength)), h))
+
+shared-slice-read-t23 : tie.Need-shared-slice-read-t23
+shared-slice-read-t23 c = some-cell _ _ _ _ (known (c .before .before .before .before .before .before .before .before .before .before .before .before .before .before .before))
 
 map-raw-width-requires : tie.Need-map-raw-width-requires
 map-raw-width-requires c κs = search needs
 
 add-raw : tie.Need-add-raw
 add-raw c =
-    let r = c .before .before .before .before .before in
+    let r = c .before .before .before .before .before .before in
     omega (arith, r .raw-width .ensures .1, at-most (r .before .before .before .before), c .map-raw-width .ensures .1)
 
 same-length : tie.Need-same-length
@@ -141,7 +127,7 @@ same-length c = search needs
 
 returns : tie.Need-returns
 returns c =
-    let m = c .before .before .before in
+    let m = c .before .before .before .before in
     let r = m .before .before in
     let e = r .before .before .before .before in
     let s = start e in (
@@ -160,6 +146,7 @@ emit-list-spec =
     emit-colors-requires
     raw-width-requires
     emit-map-requires
+    shared-slice-read-t23
     map-raw-width-requires
     add-raw
     same-length
