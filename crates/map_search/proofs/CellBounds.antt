@@ -16,7 +16,7 @@ use Rattle.context.specs.Order.{orderOf}
 use Rattle.near.specs.Near.{Below}
 use Rattle.cells.specs.declared.Cell.{Cell}
 use Rattle.cells.specs.Cell.{square, squaresOf, ratesOf}
-use Rattle.cells.proofs.UniformBits.{uniform-32}
+use Rattle.counts.proofs.Uniform.{uniform-any}
 use Rattle.cells.proofs.Eight.{eight-at}
 use Rattle.cells.proofs.Ranked.{chosen-in}
 use Rattle.scan.specs.declared.Scan.{Scan}
@@ -45,7 +45,7 @@ module _ (samples costs colours : List Float) (n : ℕ) (lambda : Float) (s : Sc
   unfolding ratesOf
   rates-within ctx rank true a b =
       rw (eight-at (λ k. ofInt binary32 (pos (uniformBits k n))) rank b)
-      (nat-within binary32 (uniformBits rank n) 32 (uniform-32 rank n (known .most)) (lit≤ tt))
+      (nat-within binary32 (uniformBits rank n) 32 (uniform-any rank n 32 (omega (arith, known .most))) (lit≤ tt))
   rates-within ctx rank false a b =
       let at : ℕ → ℕ = λ k. 21 + ((n - 2) * 5 + ctx) * 8 + k in
       rw (eight-at (λ k. getD costs (at k) nan) rank b) (known .cost (at rank) (omega (arith, known .most)))

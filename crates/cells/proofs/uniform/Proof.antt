@@ -1,6 +1,6 @@
 use native.Mathlib.Omega.{arith}
 use mathlib.Core.Path.{refl}
-use Rattle.cells.proofs.UniformBits.{uniform-32}
+use Rattle.counts.proofs.Uniform.{uniform-any}
 use borrow.Author.Needs.{needs}
 use Rattle.cells.proofs.uniform.Statement.{statement}
 use Rattle.cells.proofs.uniform.Tie as tie
@@ -9,7 +9,9 @@ uniform-bits-requires : tie.Need-uniform-bits-requires
 uniform-bits-requires c κs = search needs
 
 cast-result : tie.Need-cast-result
-cast-result c = omega (arith, c .uniform-bits .ensures, uniform-32 (c .before .args .v) (c .before .args .n) (c .before .pre))
+cast-result c =
+    let a = c .before .args in
+    omega (arith, c .uniform-bits .ensures, uniform-any (a .v) (a .n) 4 (omega (arith, c .before .pre)))
 
 int-to-float-result : tie.Need-int-to-float-result
 int-to-float-result c = search needs
