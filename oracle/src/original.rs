@@ -151,13 +151,21 @@ pub fn pack((kind, first, second): (u32, u32, u32)) -> u32 {
     (kind << 24) + (first << 16) + second
 }
 
-/// Raw width is document 01's, not the original's: widths of the bypass calls, and ceil_log2(n)
-/// for the uniform call.
+/// Raw width is document 01's, not the original's: the widths of the bypass calls, and that of the
+/// uniform call, which document 02's L4 counts as it is sent and no longer as ceil_log2(n).
 pub fn raw_width(words: &[u32]) -> u32 {
     let width = |&word: &u32| match unpack(word) {
         (1, width, _) => width,
-        (2, n, _) => n.next_power_of_two().trailing_zeros(),
+        (2, n, value) => uniform_width(n, value),
         _ => 0,
     };
     words.iter().map(width).sum()
+}
+
+/// Codes of as many bits as n has binary digits would be 2^digits, more than the n that are needed.
+/// So many values as are over, the smallest ones, take a bit less.
+fn uniform_width(n: u32, value: u32) -> u32 {
+    let digits = u32::BITS - n.leading_zeros();
+    let over = (1 << digits) - n;
+    digits - u32::from(value < over)
 }
