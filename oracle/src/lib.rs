@@ -2,6 +2,8 @@
 
 /// The original's module path: its file names `crate::av2::entropy`.
 mod av2 {
+    #[allow(clippy::all)]
+    pub(crate) mod coder;
     pub(crate) mod entropy;
     include!(concat!(env!("OUT_DIR"), "/original.rs"));
 }
@@ -23,6 +25,7 @@ pub mod replay_blocks;
 pub mod replay_reads;
 pub mod report_text;
 pub mod reported;
+mod sending;
 pub mod text;
 pub mod worked;
 
@@ -32,3 +35,4 @@ pub use original::{
     block_allowed, context, fill_costs, list, pack, pred, raw_width, search, unpack, Block, Corner,
     Found, Palette,
 };
+pub use sending::{sent_bits, sent_in_order};

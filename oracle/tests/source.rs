@@ -1,4 +1,5 @@
 //! The file that is built is the original but for one line, and its counted copy has three more.
+//! The coder's functions and start values stand in the original.
 
 use std::fs;
 
@@ -30,4 +31,68 @@ fn the_counted_copy_has_three_lines_more_in_its_map_search() {
     for text in [&counted, map_search] {
         assert_eq!(text.lines().filter(|line| is_added(line)).count(), 3);
     }
+}
+
+fn original_coder() -> String {
+    fs::read_to_string(env!("ORIGINAL_ENTROPY")).unwrap()
+}
+
+/// `new` with the start values, then the taken functions, each with all its lines.
+fn built_coder() -> Vec<String> {
+    let built = fs::read_to_string(concat!(env!("OUT_DIR"), "/coder.rs")).unwrap();
+    let functions = built.strip_prefix("impl RangeEncoder {\n").unwrap();
+    let functions = functions.strip_suffix("}\n").unwrap();
+    let whole = |function: &str| function.trim_start_matches('\n').to_string();
+    functions.split_inclusive("\n    }\n").map(whole).collect()
+}
+
+fn name(function: &str) -> &str {
+    let (_, head) = function.split_once("fn ").unwrap();
+    head.split('(').next().unwrap()
+}
+
+#[test]
+fn the_coders_functions_stand_in_the_original() {
+    let (original, built) = (original_coder(), built_coder());
+    for function in &built[1..] {
+        let places: Vec<_> = original.match_indices(function).collect();
+        assert_eq!(places.len(), 1, "{function}");
+        let mut before = original[..places[0].0].lines();
+        let owner = before.rfind(|line| line.starts_with("impl "));
+        assert_eq!(owner, Some("impl RangeEncoder {"), "{function}");
+    }
+    let expected = [
+        "new",
+        "encode_uniform",
+        "encode_bypass",
+        "normalize_bypass",
+        "tell_bits",
+        "finish",
+    ];
+    let names: Vec<_> = built.iter().map(|function| name(function)).collect();
+    assert_eq!(names, expected);
+}
+
+#[test]
+fn the_coder_starts_as_the_original_does() {
+    let start = "    pub(crate) fn new() -> Self {\n        RangeEncoder {\n";
+    let end = "        }\n    }\n";
+    let original = original_coder();
+    let parts: Vec<_> = original.split(start).collect();
+    assert_eq!(parts.len(), 2);
+    let (all, _) = parts[1].split_once(end).unwrap();
+    let built = built_coder();
+    let taken = built[0].strip_prefix(start).unwrap();
+    let taken: Vec<_> = taken.strip_suffix(end).unwrap().lines().collect();
+    let stands = |line: &&str| all.lines().any(|l| l == *line);
+    assert!(taken.iter().all(stands));
+    let trimmed: Vec<_> = taken.iter().map(|line| line.trim()).collect();
+    let expected = [
+        "low: 0,",
+        "range: 0x8000,",
+        "count: -9,",
+        "output: vec![],",
+        "sink: false,",
+    ];
+    assert_eq!(trimmed, expected);
 }
