@@ -1,4 +1,5 @@
-//! `list` and `pred`, word by word and bit by bit, with what they must leave alone.
+//! `list` and `pred`, word by word and bit by bit, with what they must leave alone; and the raw
+//! width beside the bits that the original's coder sends.
 
 use crate::buffer::{same_bits, Buffer};
 use crate::drive::{drive, Run};
@@ -6,9 +7,10 @@ use crate::tally::Tally;
 use palette_compare::clock::Clock;
 use palette_compare::due::Same;
 use palette_oracle::answers::{list_answer, pred_answer, ListAnswer, PredAnswer};
+use palette_oracle::check::ceil_log2;
 use palette_oracle::generate::palettes::PaletteKinds;
 use palette_oracle::generate::requests::{request, Request, RequestKinds};
-use palette_oracle::Palette;
+use palette_oracle::{sent_bits, unpack, Palette};
 use palette_station::{list_into, pred_into, Colors, PaletteView, Refusal, MAX_COLORS};
 use std::time::Duration;
 
@@ -24,18 +26,31 @@ pub fn compare(run: Run) -> Result<bool, String> {
         let (listed, predicted) = (list_answer(&request), pred_answer(&request));
         count_kinds(tally, &kinds, &listed, &predicted);
         let same = match lent(&request.palette) {
-            Ok(palette) => vec![
-                ("list", same_list(&request, &palette, &listed, tally)),
-                ("pred", same_pred(&palette, &predicted)),
-            ],
+            Ok(palette) => {
+                let [list, sent] = same_list(&request, &palette, &listed, tally);
+                vec![list, sent, ("pred", same_pred(&palette, &predicted))]
+            }
             Err(refusal) => {
                 tally.kind("type", "colours refused");
                 same_refusal(&request.palette, refusal, [listed.number, predicted.number])
             }
         };
+        count_uniform(tally, &listed.words);
         tally.case(index, &same);
         Ok(())
     })
+}
+
+/// The uniform call by its n, and by whether the original's coder sends it a bit shorter than
+/// ceil_log2(n): only such calls tell document 02's L4 from what document 01 had.
+fn count_uniform(tally: &mut Tally, words: &[u32]) {
+    for &word in words {
+        if let (2, n, _) = unpack(word) {
+            let shorter = sent_bits(&[word]) < ceil_log2(n);
+            let width = if shorter { "shorter" } else { "whole" };
+            tally.kind("uniform", format!("{n}, {width}"));
+        }
+    }
 }
 
 fn count_kinds(tally: &mut Tally, kinds: &RequestKinds, listed: &ListAnswer, pred: &PredAnswer) {
@@ -86,12 +101,14 @@ fn same_refusal(palette: &Palette, refusal: Refusal, numbers: [u32; 2]) -> Vec<S
     ]
 }
 
+/// What is returned and written; and the raw width returned, which must be the number of bits that
+/// the original's coder sends for the list.
 fn same_list(
     request: &Request,
     palette: &PaletteView,
     due: &ListAnswer,
     tally: &mut Tally,
-) -> bool {
+) -> [Same; 2] {
     let mut words = Buffer::new(due.room, WORD);
     let room = words.room();
     let start = Clock::start();
@@ -100,14 +117,17 @@ fn same_list(
     if answer.is_ok() && due.number == 0 {
         tally.time(time, time_original(request));
     }
-    let same = match answer {
+    let (same, sent) = match answer {
         Ok(listing) => {
             let returned = (listing.words, listing.raw_width);
-            due.number == 0 && returned == (&due.words[..], due.raw_width)
+            let same = due.number == 0 && returned == (&due.words[..], due.raw_width);
+            (same, listing.raw_width == sent_bits(&due.words))
         }
-        Err(refusal) => refusal.number() == due.number,
+        // Nothing is sent.
+        Err(refusal) => (refusal.number() == due.number, true),
     };
-    same && words.holds(&due.words, u32::from)
+    let list = same && words.holds(&due.words, u32::from);
+    [("list", list), ("bits sent", sent)]
 }
 
 fn time_original(request: &Request) -> Duration {
