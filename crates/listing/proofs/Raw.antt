@@ -137,5 +137,5 @@ raw-map w h bd p f =
       raw-append (orientWords w h t) (upTo (lineWords n t (p .flags) (p .map) w len) lines),
       raw-orient w h t,
       raw-lines (p .map) w n t lines len (inside w h bd p f) (p .flags) (flag w h bd p f) (long w h bd p f) (lines-pos w h bd p f)
-      (first-flag w h bd p f),
+          (first-flag w h bd p f),
     )

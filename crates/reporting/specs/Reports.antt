@@ -5,7 +5,7 @@ use mathlib.Core.List.{List, [], _∷_, _++_, map}
 use Prim.Native.Nat.{ℕ}
 use lib.Dec.{lit<}
 use Rattle.lists.specs.Counted.{upTo, allBelow, allIn, elem, above, ascending}
-use Rattle.counts.specs.Counts.{leastBits, ceilLog2}
+use Rattle.counts.specs.Counts.{leastBits, ceilLog2, uniformBits}
 use Rattle.context.specs.Map.{cell, lineCell}
 use Rattle.context.specs.Order.{choose, byThree, around, others, orderOf, place, rankOf}
 use Rattle.literals.specs.Words.{word, rawBits, rawWidth}
@@ -37,6 +37,10 @@ block colors row =
 abbrev good : List String
 good = block "      16     235" "       0       0       1       1"
 
+-- one cell of three colours
+pub single : String → List String
+single index = "       1       1       3       8       0       0" ∷ "      10      11      12" ∷ "" ∷ "       1" ∷ index ∷ []
+
 abbrev nothing : String
 nothing = "       0       0       0       0       0       1"
 
@@ -47,6 +51,16 @@ reports =
     (report [], lines (nothing ∷ []))
     -- document 01's palette: 12 calls, 8 cells, raw width 20, and 20/8 is 5/2
     ∷ (report (lines good), lines ("       1      12       8      20" ∷ "       0      12       8      20       5       2" ∷ []))
+    -- document 02, L4: one cell of three colours; index 0 takes 1 bit and index 2 takes 2
+    ∷ (
+      report (lines (single "       0" ++ single "       2")),
+      lines (
+          "       1       8       1      22"
+          ∷ "       2       8       1      23"
+          ∷ "       0      16       2      45      45       2"
+          ∷ []
+          ),
+    )
     -- text after its last row begins the next palette
     ∷ (
       report (lines (good ++ good)),
@@ -103,11 +117,11 @@ reports =
     ∷ []
 
 pub reports-hold : map (λ r. r .0) reports ≡ map (λ r. r .1) reports
-unfolding reports block lines bytes report blocksOf blockLine blockLines total pageOf lastLine fraction gcdBy listedBlock blockOf
+unfolding reports block single lines bytes report blocksOf blockLine blockLines total pageOf lastLine fraction gcdBy listedBlock blockOf
     textNumber headerAt readHeader headerFault placesOf isBody cacheAt paletteAt isDigit column columns fieldAt isLine
     lineNumbers areRows rowNumbers digits field line sidesOk depthOk colorsOk orientOk cacheOk countsOk lineOk mapOk refusal
     levelsOk allIn allBelow above ascending lineCell word rawBits rawWidth callList colorWords cacheWords untaken remove
-    literalWords moreWords stepWords stepBits cutBits largestStep leastBits ceilLog2 mapWords orientWords upTo lineWords
+    literalWords moreWords stepWords stepBits cutBits largestStep leastBits ceilLog2 uniformBits mapWords orientWords upTo lineWords
     rowContext sentCells rankedWord cellWord cell around byThree choose rankOf orderOf place others elem
 reports-hold = refl
 
@@ -116,6 +130,6 @@ pub good-whole : Whole (lines good)
 unfolding block lines bytes listedBlock blockOf textNumber headerAt readHeader headerFault placesOf isBody cacheAt paletteAt
     isDigit column columns fieldAt isLine lineNumbers areRows rowNumbers sidesOk depthOk colorsOk orientOk cacheOk countsOk
     lineOk mapOk refusal levelsOk allIn allBelow above ascending lineCell word rawBits rawWidth callList colorWords cacheWords
-    untaken remove literalWords moreWords stepWords stepBits cutBits largestStep leastBits ceilLog2 mapWords orientWords upTo
+    untaken remove literalWords moreWords stepWords stepBits cutBits largestStep leastBits ceilLog2 uniformBits mapWords orientWords upTo
     lineWords rowContext sentCells rankedWord cellWord cell around byThree choose rankOf orderOf place others elem
 good-whole = record { some = lit< tt; taken = refl }

@@ -1,4 +1,5 @@
--- Document 01, 'Worked blocks' and 'Listing program': those with a star, as one claim on the definitions. Assumes nothing.
+-- Document 01, 'Worked blocks' and 'Listing program': those with a star, and document 02's widths (L4), as one claim on the
+-- definitions. Assumes nothing.
 use Prim.Native.Nat.{ℕ, _+_, _/_, _%_}
 use mathlib.Core.Path.{_≡_, refl, ap, _∙_}
 use mathlib.Core.Bool.{false, cond}
@@ -9,6 +10,7 @@ use Rattle.counts.specs.Counts.{leastBits, ceilLog2, uniformBits}
 use Rattle.context.specs.Map.{cell, lineCell}
 use Rattle.context.specs.Order.{choose, byThree, around, others, orderOf, place, rankOf}
 use Rattle.literals.specs.Words.{word, bypass, rawBits, rawWidth}
+use Rattle.literals.specs.Sent.{bypassSent, uniformSent, callSent, bitsSent}
 use Rattle.literals.specs.Literals.{largestStep, stepBits, cutBits, stepWords, moreWords, literalWords, stepsWidth, literalBits, levelsOk}
 use Rattle.emit.specs.Colors.{remove, cacheWords, untaken, colorWords}
 use Rattle.emit.specs.Map.{rankedWord, cellWord, rowContext, sentCells, lineWords, orientWords, mapWords}
@@ -79,7 +81,15 @@ starred =
       word 3 0 0 ∷ bypass 8 16 ∷ bypass 2 3 ∷ bypass 8 218 ∷ bypass 1 0 ∷ word 4 3 1 ∷ word 2 2 0 ∷ word 4 1 0
           ∷ word 5 0 0 ∷ word 5 4 0 ∷ word 5 4 1 ∷ word 5 2 1 ∷ [],
     )
+    -- document 02, L4: the worked value 20 stays, as n = 2 takes 1 bit either way; with n = 3 index 0 takes 1 bit and index 2
+    -- takes 2; and the bits that are sent
     ∷ (rawWidth (callList 4 2 8 [] block) ∷ [], 20 ∷ [])
+    ∷ (map (λ v. rawBits (word 2 2 v)) (0 ∷ 1 ∷ []), 1 ∷ 1 ∷ [])
+    ∷ (map (λ v. rawBits (word 2 3 v)) (0 ∷ 1 ∷ 2 ∷ []), 1 ∷ 2 ∷ 2 ∷ [])
+    ∷ (map (λ v. rawBits (word 2 5 v)) (0 ∷ 1 ∷ 2 ∷ 3 ∷ 4 ∷ []), 2 ∷ 2 ∷ 2 ∷ 3 ∷ 3 ∷ [])
+    ∷ (bitsSent (word 2 3 0 ∷ []), 0 ∷ [])
+    ∷ (bitsSent (word 2 3 1 ∷ word 2 3 2 ∷ []), 1 ∷ 0 ∷ 1 ∷ 1 ∷ [])
+    ∷ (bitsSent (bypass 8 218 ∷ bypass 2 3 ∷ word 4 3 1 ∷ []), 1 ∷ 1 ∷ 0 ∷ 1 ∷ 1 ∷ 0 ∷ 1 ∷ 0 ∷ 1 ∷ 1 ∷ [])
     ∷ (
       answer (lines (
           "       4       2       2       8       0       0"
@@ -138,5 +148,5 @@ unfolding found searchNumber
 edge-found = ap told levels ∙ computed
 
 pub starred-hold : map (λ r. r .0) starred ≡ map (λ r. r .1) starred
-unfolding starred block word rawBits rawWidth uniformBits leastBits ceilLog2 callList colorWords cacheWords untaken remove literalWords moreWords stepWords stepBits cutBits largestStep literalBits stepsWidth mapWords orientWords upTo lineWords rowContext sentCells rankedWord cellWord cell around byThree choose rankOf orderOf place others elem lines bytes answer shown textNumber headerAt headerFault placesOf isBody cacheAt paletteAt isDigit column columns fieldAt isLine lineNumbers areRows rowNumbers digits field line callLine callLines listed refused sidesOk depthOk colorsOk orientOk cacheOk countsOk lineOk mapOk refusal levelsOk allIn allBelow above ascending lineCell
+unfolding starred block word rawBits rawWidth bypassSent uniformSent callSent bitsSent uniformBits leastBits ceilLog2 callList colorWords cacheWords untaken remove literalWords moreWords stepWords stepBits cutBits largestStep literalBits stepsWidth mapWords orientWords upTo lineWords rowContext sentCells rankedWord cellWord cell around byThree choose rankOf orderOf place others elem lines bytes answer shown textNumber headerAt headerFault placesOf isBody cacheAt paletteAt isDigit column columns fieldAt isLine lineNumbers areRows rowNumbers digits field line callLine callLines listed refused sidesOk depthOk colorsOk orientOk cacheOk countsOk lineOk mapOk refusal levelsOk allIn allBelow above ascending lineCell
 starred-hold = rw edge-found refl
