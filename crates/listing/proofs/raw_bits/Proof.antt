@@ -1,3 +1,5 @@
+use Prim.Native.Nat.{_/_, _%_}
+use Rattle.counts.specs.Counts.{uniformBits}
 use Rattle.literals.specs.Words.{rawBits}
 use Rattle.literals.proofs.Words.{bits-most}
 use borrow.Author.Tests.{eq-eqb, ne-eqb}
@@ -18,8 +20,9 @@ returns-2 : tie.Need-returns-2
 unfolding rawBits
 returns-2 c =
     let w = c .before .before .before .args .word in
+    let sent : c .uniform-bits .result ≡ uniformBits (w % 65536) (w / 65536 % 256) = c .uniform-bits .ensures in
     let e : c .uniform-bits .result ≡ rawBits w =
-    c .uniform-bits .ensures ∙ sym (simp (ne-eqb _ 1 (c .before .before .if1 .left), eq-eqb _ 2 (c .before .if2 .taken))) in
+    sent ∙ sym (simp (ne-eqb _ 1 (c .before .before .if1 .left), eq-eqb _ 2 (c .before .if2 .taken))) in
     (e, omega (arith, e, bits-most w))
 
 returns-3 : tie.Need-returns-3
