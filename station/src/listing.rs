@@ -18,7 +18,24 @@ use crate::{Calls, Palette, PaletteView, Refusal};
 pub struct Listing {
     /// One word for each call.
     pub words: Vec<u32>,
-    /// The widths of all bypass calls, and ceil_log2(n) for the uniform call.
+    /// The bits that the coder sends as they are: the width of each bypass call, and what the value
+    /// of the uniform call takes among its n. Where n is no power of two, small values take one bit
+    /// less than the others.
+    ///
+    /// ```
+    /// # use palette_station::{list, Colors, Palette};
+    /// // One cell of three colours: index 0 takes 1 bit, index 2 takes 2.
+    /// # let colors = Colors::new(&[10, 11, 12])?;
+    /// # let transposed = false;
+    /// let cell = |index| Palette {
+    ///     map: vec![index],
+    ///     // ..
+    /// #   width: 1, height: 1, bd: 8, colors, transposed, flags: vec![1], bits: 0.0,
+    /// };
+    /// assert_eq!(list(&cell(0), &[])?.raw_width, 22);
+    /// assert_eq!(list(&cell(2), &[])?.raw_width, 23);
+    /// # Ok::<(), palette_station::Refusal>(())
+    /// ```
     pub raw_width: u32,
 }
 
@@ -35,7 +52,7 @@ pub struct Listing {
 pub struct ListingView<'w> {
     /// One word for each call.
     pub words: &'w [u32],
-    /// The widths of all bypass calls, and ceil_log2(n) for the uniform call.
+    /// As in [`Listing::raw_width`].
     pub raw_width: u32,
 }
 

@@ -50,15 +50,23 @@ fn found_palettes_come_back_from_their_lists() {
     }
 }
 
-/// Adds up the raw width.
-struct Raw(u32);
+/// Adds up the raw width, and counts the uniform calls that are sent a bit shorter than others of
+/// the same n.
+#[derive(Default)]
+struct Raw {
+    width: u32,
+    shorter: u32,
+}
 
 impl Coder for Raw {
     fn bypass(&mut self, width: u32, _: u32) {
-        self.0 += width;
+        self.width += width;
     }
-    fn uniform(&mut self, n: u32, _: u32) {
-        self.0 += n.next_power_of_two().ilog2();
+    fn uniform(&mut self, n: u32, value: u32) {
+        let digits = n.ilog2() + 1;
+        let is_short = value < (1 << digits) - n;
+        self.width += digits - u32::from(is_short);
+        self.shorter += u32::from(is_short && !n.is_power_of_two());
     }
     fn size(&mut self, _: u32) {}
     fn row(&mut self, _: u32, _: u32) {}
@@ -68,14 +76,17 @@ impl Coder for Raw {
 #[test]
 fn raw_width_is_that_of_the_calls() {
     let mut random = Random(3);
+    let mut shorter = 0;
     for palette in found(&mut random, 50) {
         for cache in caches(&mut random, &palette) {
             let listing = list(&palette, &cache).unwrap();
-            let mut raw = Raw(0);
+            let mut raw = Raw::default();
             replay(&listing.words, &mut raw).unwrap();
-            assert_eq!(raw.0, listing.raw_width);
+            assert_eq!(raw.width, listing.raw_width);
+            shorter += raw.shorter;
         }
     }
+    assert!(shorter > 0);
 }
 
 #[test]
