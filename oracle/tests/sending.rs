@@ -99,6 +99,17 @@ fn the_other_calls_send_no_raw_bits() {
     assert_eq!(sent_bits(&[]), 0);
 }
 
+/// The definitions compute these too (the crate `starred`).
+#[test]
+fn the_codes_of_three_and_of_five_values() {
+    let digit = |&bit: &bool| if bit { '1' } else { '0' };
+    let code = |words: &[u32]| -> String { sent_in_order(words).iter().map(digit).collect() };
+    let codes = |n| -> Vec<String> { (0..n).map(|value| code(&uniform(n, value))).collect() };
+    assert_eq!(codes(3), ["0", "10", "11"]);
+    assert_eq!(codes(5), ["00", "01", "10", "110", "111"]);
+    assert_eq!(code(&[pack((BYPASS, 8, 218))]), "11011010");
+}
+
 /// Every value of every n follows bits of any number, so that it lies across two bytes too.
 #[test]
 fn a_uniform_call_reads_back_wherever_it_stands() {

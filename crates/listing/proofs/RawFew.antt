@@ -8,7 +8,7 @@ use Rattle.lists.specs.Counted.{bit, elem}
 use Rattle.lists.proofs.Counted.{bit-most}
 use Rattle.counts.specs.Counts.{orientSent}
 use Rattle.counts.proofs.Uniform.{uniform-below}
-use Rattle.literals.specs.Words.{word, rawBits, rawWidth}
+use Rattle.literals.specs.Words.{word, rawWidth}
 use Rattle.literals.specs.Literals.{literalWords}
 use Rattle.literals.proofs.Words.{raw-word, bits-most}
 use Rattle.literals.proofs.Widths.{length-literals}

@@ -87,9 +87,12 @@ starred =
     ∷ (map (λ v. rawBits (word 2 2 v)) (0 ∷ 1 ∷ []), 1 ∷ 1 ∷ [])
     ∷ (map (λ v. rawBits (word 2 3 v)) (0 ∷ 1 ∷ 2 ∷ []), 1 ∷ 2 ∷ 2 ∷ [])
     ∷ (map (λ v. rawBits (word 2 5 v)) (0 ∷ 1 ∷ 2 ∷ 3 ∷ 4 ∷ []), 2 ∷ 2 ∷ 2 ∷ 3 ∷ 3 ∷ [])
-    ∷ (bitsSent (word 2 3 0 ∷ []), 0 ∷ [])
-    ∷ (bitsSent (word 2 3 1 ∷ word 2 3 2 ∷ []), 1 ∷ 0 ∷ 1 ∷ 1 ∷ [])
-    ∷ (bitsSent (bypass 8 218 ∷ bypass 2 3 ∷ word 4 3 1 ∷ []), 1 ∷ 1 ∷ 0 ∷ 1 ∷ 1 ∷ 0 ∷ 1 ∷ 0 ∷ 1 ∷ 1 ∷ [])
+    ∷ (bitsSent (map (λ v. word 2 3 v) (0 ∷ 1 ∷ 2 ∷ [])), 0 ∷ 1 ∷ 0 ∷ 1 ∷ 1 ∷ [])
+    ∷ (
+      bitsSent (map (λ v. word 2 5 v) (0 ∷ 1 ∷ 2 ∷ 3 ∷ 4 ∷ [])),
+      0 ∷ 0 ∷ 0 ∷ 1 ∷ 1 ∷ 0 ∷ 1 ∷ 1 ∷ 0 ∷ 1 ∷ 1 ∷ 1 ∷ [],
+    )
+    ∷ (bitsSent (bypass 8 218 ∷ word 4 3 1 ∷ bypass 2 3 ∷ []), 1 ∷ 1 ∷ 0 ∷ 1 ∷ 1 ∷ 0 ∷ 1 ∷ 0 ∷ 1 ∷ 1 ∷ [])
     ∷ (
       answer (lines (
           "       4       2       2       8       0       0"

@@ -112,7 +112,9 @@ emit-map-requires c κs =
     ((lines-inside s, known s .wideMost, cells-few s), ((long _ _ _ _ (known s), omega (arith, known s .flagLength)), h))
 
 shared-slice-read-t23 : tie.Need-shared-slice-read-t23
-shared-slice-read-t23 c = some-cell _ _ _ _ (known (c .before .before .before .before .before .before .before .before .before .before .before .before .before .before .before))
+shared-slice-read-t23 c =
+    let e = c .before .before .before .before .before .before .before .before .before in
+    some-cell _ _ _ _ (known (start e))
 
 map-raw-width-requires : tie.Need-map-raw-width-requires
 map-raw-width-requires c κs = search needs
