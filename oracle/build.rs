@@ -94,7 +94,7 @@ fn build_coder(out: &Path) -> Result<(), String> {
         coder.extend(function(&lines, name)?);
     }
     coder.push(END);
-    write(&out.join("coder.rs"), &joined(&coder))
+    write(&out.join("raw_coder.rs"), &joined(&coder))
 }
 
 /// The text of a file of the original. Tests find the file by the variable.

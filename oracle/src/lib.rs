@@ -2,9 +2,9 @@
 
 /// The original's module path: its file names `crate::av2::entropy`.
 mod av2 {
-    #[allow(clippy::all)]
-    pub(crate) mod coder;
     pub(crate) mod entropy;
+    #[allow(clippy::all)]
+    pub(crate) mod raw_coder;
     include!(concat!(env!("OUT_DIR"), "/original.rs"));
 }
 

@@ -1,6 +1,6 @@
 //! The raw bits of a call list, as the original's own coder sends them.
 
-use crate::av2::coder::RangeEncoder;
+use crate::av2::raw_coder::RangeEncoder;
 use crate::original::unpack;
 
 /// How many bits the coder sends for the bypass and uniform calls of a list, by its own telling.

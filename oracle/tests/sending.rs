@@ -35,7 +35,7 @@ impl Reader {
         (0..width).fold(0, |value, _| value * 2 + next())
     }
 
-    /// The specification's `ns(n)`.
+    /// As a decoder reads it: one bit more only where those before do not tell the value.
     fn uniform(&mut self, n: u32) -> u32 {
         let w = n.ilog2() + 1;
         let m = (1 << w) - n;
@@ -82,6 +82,7 @@ fn a_uniform_call_sends_the_worked_widths() {
 
 #[test]
 fn a_bypass_call_sends_its_width() {
+    assert_eq!(sent_bits(&[pack((BYPASS, 0, 0))]), 0);
     for width in 1..=12 {
         let top = (1 << width) - 1;
         for value in [0, 1, top / 2, top / 3, top - 1, top] {

@@ -1,5 +1,5 @@
 //! The file that is built is the original but for one line, and its counted copy has three more.
-//! The coder's functions and start values stand in the original.
+//! The coder's functions, fields and start values stand in the original.
 
 use std::fs;
 
@@ -39,7 +39,7 @@ fn original_coder() -> String {
 
 /// `new` with the start values, then the taken functions, each with all its lines.
 fn built_coder() -> Vec<String> {
-    let built = fs::read_to_string(concat!(env!("OUT_DIR"), "/coder.rs")).unwrap();
+    let built = fs::read_to_string(concat!(env!("OUT_DIR"), "/raw_coder.rs")).unwrap();
     let functions = built.strip_prefix("impl RangeEncoder {\n").unwrap();
     let functions = functions.strip_suffix("}\n").unwrap();
     let whole = |function: &str| function.trim_start_matches('\n').to_string();
@@ -71,6 +71,20 @@ fn the_coders_functions_stand_in_the_original() {
     ];
     let names: Vec<_> = built.iter().map(|function| name(function)).collect();
     assert_eq!(names, expected);
+}
+
+#[test]
+fn the_coders_fields_are_the_originals() {
+    let fields = |text: &str| -> Vec<String> {
+        let (_, fields) = text.split_once("struct RangeEncoder {\n").unwrap();
+        let (fields, _) = fields.split_once("\n}\n").unwrap();
+        let plain = |line: &str| line.trim().trim_start_matches("pub(crate) ").to_string();
+        fields.lines().map(plain).collect()
+    };
+    let all = fields(&original_coder());
+    let taken = fields(include_str!("../src/av2/raw_coder.rs"));
+    assert_eq!(taken.len(), 5);
+    assert!(taken.iter().all(|field| all.contains(field)));
 }
 
 #[test]

@@ -1,29 +1,42 @@
 -- The raw width of calls is the number of bits that the byte coder sends for them as they are. Assumes nothing.
-use mathlib.Core.Path.{_≡_, refl, ap, _∙_}
+use mathlib.Core.Path.{_≡_, refl, sym, ap, _∙_}
 use mathlib.Core.Bool.{Bool, true, false, cond}
 use mathlib.Core.List.{List, [], _∷_, _++_}
-use Prim.Native.Nat.{ℕ, zero, suc, _+_, _-_, _/_, _%_, _^_}
+use Prim.Native.Nat.{ℕ, zero, suc, _+_, _-_, _/_, _%_, _^_, _≤_, _<_}
 use native.Mathlib.Omega.{arith}
 use lib.Dec.{eqb, ltb}
 use lib.ListN.{length, length-append}
 use lib.Pow.{shr-shr}
 use Rattle.counts.specs.Counts.{ceilLog2, uniformBits}
+use Rattle.counts.proofs.Log.{ceil-reaches}
 use Rattle.literals.specs.Words.{rawBits, rawWidth}
-use Rattle.literals.specs.Sent.{bypassSent, uniformSent, callSent, bitsSent, RawIsSent}
+use Rattle.literals.specs.Sent.{bypassSent, uniformSent, callSent, bitsSent, InTwoWrites, RawIsSent}
 
 bypass-length : (k v : ℕ) → length (bypassSent k v) ≡ k
 unfolding bypassSent
 bypass-length zero v = refl
 bypass-length (suc k) v = omega (arith, bypass-length k v)
 
--- what `encode_uniform` does with the last bit
-pub last-apart : (k v : ℕ) → bypassSent k (v / 2) ++ bypassSent 1 (v % 2) ≡ bypassSent (suc k) v
+-- the last digit apart
+last-apart : (k v : ℕ) → bypassSent k (v / 2) ++ bypassSent 1 (v % 2) ≡ bypassSent (suc k) v
 unfolding bypassSent
 last-apart zero v = let same : v % 2 / 1 % 2 ≡ v / 1 % 2 = omega arith in ap (λ (b : ℕ). b ∷ []) same
 last-apart (suc k) v =
     let one-more : 1 + k ≡ suc k = omega arith in
     let higher : v / 2 / 2 ^ k ≡ v / 2 ^ suc k = shr-shr v 1 k ∙ ap (λ (j : ℕ). v / 2 ^ j) one-more in
     rw (higher, last-apart k v) refl
+
+joined : (l v : ℕ) → 2 ≤ 2 ^ l → bypassSent (l - 1) (v / 2) ++ bypassSent 1 (v % 2) ≡ bypassSent l v
+joined zero v h = absurd (omega arith)
+joined (suc k) v h = let before : suc k - 1 ≡ k = omega arith in rw before (last-apart k v)
+
+pub in-two-writes : InTwoWrites
+unfolding uniformSent
+in-two-writes v n some small =
+    let l = ceilLog2 (n + 1) in
+    let m = 2 ^ l - n in
+    let digits : n + 1 ≤ 2 ^ l = ceil-reaches (n + 1) (omega arith) in
+    ap (cond (ltb v m) (bypassSent (l - 1) v)) (sym (joined l (v + m) (omega arith)))
 
 -- the length of either choice
 length-cond : (t : Bool) (us vs : List ℕ) → length (cond t us vs) ≡ cond t (length us) (length vs)
