@@ -137,10 +137,10 @@ static inline uint32_t palette_search_default_env(
  * Returns 0, or 1, 2, 11 to 16, tested in this order. Writes `words` from the front, and nothing
  * behind: a word is kind x 2^24 + first x 2^16 + second, with kind 1 bypass (width, value),
  * 2 uniform (n, value), 3 size (0, n-2), 4 row (context, flag), 5 colour ((n-2) x 5 + context,
- * rank). Writes `listed`: the number of words and the raw width, which is the number of bits that
- * the coder sends as they are: a bypass call's width, and of the uniform call as many as its value
- * takes among its n (1 or 2 bits where n is 3, 2 or 3 where it is 5, 6 or 7). PALETTE_MAX_WORDS is
- * always room enough.
+ * rank). Writes `listed`: the number of words and the raw width, the number of bits that the coder
+ * sends as they are. These are the widths of the bypass calls, and for the uniform call 1, 2 or 3
+ * bits where n is 2, 4 or 8; where n is 3 it is 1 or 2, where n is 5, 6 or 7 it is 2 or 3, and the
+ * smaller values take the fewer bits. PALETTE_MAX_WORDS is always room enough.
  */
 uint32_t palette_list(size_t width, size_t height, uint32_t bd, const uint16_t colors[8], size_t n,
                       bool transposed, const uint8_t *map, size_t cells, const uint8_t *flags,

@@ -18,22 +18,24 @@ use crate::{Calls, Palette, PaletteView, Refusal};
 pub struct Listing {
     /// One word for each call.
     pub words: Vec<u32>,
-    /// The bits that the coder sends as they are: the width of each bypass call, and what the value
-    /// of the uniform call takes among its n. Where n is no power of two, small values take one bit
-    /// less than the others.
+    /// The number of bits that the coder sends as they are: the widths of the bypass calls, and for
+    /// the uniform call 1, 2 or 3 bits where there are 2, 4 or 8 colours. Of 3, 5, 6 or 7 colours
+    /// the first few indices take one bit less than the others.
     ///
     /// ```
     /// # use palette_station::{list, Colors, Palette};
-    /// // One cell of three colours: index 0 takes 1 bit, index 2 takes 2.
     /// # let colors = Colors::new(&[10, 11, 12])?;
-    /// # let transposed = false;
     /// let cell = |index| Palette {
+    ///     width: 1,
+    ///     height: 1,
+    ///     colors, // 10, 11 and 12 at 8 bits
     ///     map: vec![index],
     ///     // ..
-    /// #   width: 1, height: 1, bd: 8, colors, transposed, flags: vec![1], bits: 0.0,
+    /// #   bd: 8, transposed: false, flags: vec![1], bits: 0.0,
     /// };
-    /// assert_eq!(list(&cell(0), &[])?.raw_width, 22);
-    /// assert_eq!(list(&cell(2), &[])?.raw_width, 23);
+    /// // 8 + 2 + 5 + 5 bits for the colours, 1 for the orientation, and those of the index.
+    /// assert_eq!(list(&cell(0), &[])?.raw_width, 21 + 1);
+    /// assert_eq!(list(&cell(2), &[])?.raw_width, 21 + 2);
     /// # Ok::<(), palette_station::Refusal>(())
     /// ```
     pub raw_width: u32,

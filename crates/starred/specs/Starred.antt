@@ -143,7 +143,11 @@ told h =
 
 computed : told (record { n = 2; w = 8 ∷ 8 ∷ replicate 30 0; s = 80 ∷ 160 ∷ replicate 30 0; q = 800 ∷ 3200 ∷ replicate 30 0 })
     ≡ edgeAnswer
-unfolding trailingZeros ofBits ofFields odd round units size span climb add sub neg sum mul div lt le eq ofInt written allInRange sumTo sumsFrom firstOf costIn cuts colorsOf cheapest firstCheapest squaresOf ratesOf ranked chosen fill distLine cellAt cellsOf constants candidates lineOf putLine restOf headOf leastOf those ordered tried triedBoth visited searched faultOf uniformBits leastBits ceilLog2 literalBits stepsWidth stepBits cutBits largestStep cell around byThree choose rankOf orderOf place others elem sidesOk depthOk
+unfolding trailingZeros ofBits ofFields odd round units size span climb add sub neg sum mul div lt le eq ofInt written
+    allInRange sumTo sumsFrom firstOf costIn cuts colorsOf cheapest firstCheapest squaresOf ratesOf ranked chosen fill
+    distLine cellAt cellsOf constants candidates lineOf putLine restOf headOf leastOf those ordered tried triedBoth visited
+    searched faultOf uniformBits leastBits ceilLog2 literalBits stepsWidth stepBits cutBits largestStep cell around byThree
+    choose rankOf orderOf place others elem sidesOk depthOk
 computed = refl
 
 edge-found : found ≡ edgeAnswer
@@ -151,5 +155,10 @@ unfolding found searchNumber
 edge-found = ap told levels ∙ computed
 
 pub starred-hold : map (λ r. r .0) starred ≡ map (λ r. r .1) starred
-unfolding starred block word rawBits rawWidth bypassSent uniformSent callSent bitsSent uniformBits leastBits ceilLog2 callList colorWords cacheWords untaken remove literalWords moreWords stepWords stepBits cutBits largestStep literalBits stepsWidth mapWords orientWords upTo lineWords rowContext sentCells rankedWord cellWord cell around byThree choose rankOf orderOf place others elem lines bytes answer shown textNumber headerAt headerFault placesOf isBody cacheAt paletteAt isDigit column columns fieldAt isLine lineNumbers areRows rowNumbers digits field line callLine callLines listed refused sidesOk depthOk colorsOk orientOk cacheOk countsOk lineOk mapOk refusal levelsOk allIn allBelow above ascending lineCell
+unfolding starred block word rawBits rawWidth bypassSent uniformSent callSent bitsSent uniformBits leastBits ceilLog2
+    callList colorWords cacheWords untaken remove literalWords moreWords stepWords stepBits cutBits largestStep literalBits
+    stepsWidth mapWords orientWords upTo lineWords rowContext sentCells rankedWord cellWord cell around byThree choose rankOf
+    orderOf place others elem lines bytes answer shown textNumber headerAt headerFault placesOf isBody cacheAt paletteAt
+    isDigit column columns fieldAt isLine lineNumbers areRows rowNumbers digits field line callLine callLines listed refused
+    sidesOk depthOk colorsOk orientOk cacheOk countsOk lineOk mapOk refusal levelsOk allIn allBelow above ascending lineCell
 starred-hold = rw edge-found refl
