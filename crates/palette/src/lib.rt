@@ -1,11 +1,13 @@
 // The front door: everything that is open to callers, each function for all arguments.
 use accept::Palette;
 use context::Context;
+use costs::Costs;
 use listing::Listed;
 ghost use mathlib.Core.Path.{_≡_};
 ghost use lib.ListN.{length};
 ghost use Rattle.counts.specs.Counts.{blockAllowed};
 ghost use Rattle.context.specs.Context.{contextOf};
+ghost use Rattle.costs.specs.Costs.{MakesCosts};
 ghost use Rattle.accept.specs.Palette.{paletteOf};
 ghost use Rattle.listing.specs.Listing.{Lists, Predicts};
 ghost use Rattle.reading.specs.Reading.{reading, Reads};
@@ -23,6 +25,13 @@ pub fn color_ctx(map: &[u8], stride: usize, y: usize, x: usize, n: usize) -> Con
     ensures { λ r. ⌜ r ≡ contextOf (now (map .entry)) stride y x n ⌝ }
 {
     context::color_ctx(map, stride, y, x, n)
+}
+
+// Makes the 301 costs from a tile's adapted rows, or from the default rows where none are lent.
+pub fn make_costs(adapted: &[u16]) -> Costs
+    ensures { λ r. ⌜ MakesCosts (now (adapted .entry)) r ⌝ }
+{
+    costs::make_costs(adapted)
 }
 
 // Searches a block for its palette, whose map and flags are written from the front of `map` and `flags`; or refuses it and

@@ -4,6 +4,7 @@ ghost use mathlib.Core.Path.{_≡_};
 ghost use mathlib.Core.List.{_∷_};
 ghost use Rattle.counts.specs.Counts.{blockAllowed};
 ghost use Rattle.context.specs.Context.{contextOf};
+ghost use Rattle.costs.specs.Costs.{costsNumber, costsOf};
 ghost use Rattle.accept.specs.Palette.{paletteOf};
 ghost use Rattle.listing.specs.Listing.{Predicts};
 ghost use Rattle.station.specs.Listed.{ListsTo};
@@ -57,6 +58,17 @@ pub extern "C" fn palette_context(
     let order = found.order;
     *context = in_words(found.ctx as u32, order);
     found.number
+}
+
+#[no_mangle]
+pub extern "C" fn palette_costs(adapted: &[u16], costs: &mut [f32; 301]) -> u32
+    ensures { λ r. ⌜ r ≡ costsNumber (now (adapted .entry)) ⌝ }
+    ensures { λ r. ⌜ now (costs .exit) ≡ costsOf (now (adapted .entry)) ⌝ }
+{
+    let made = palette::make_costs(adapted);
+    let table = made.costs;
+    *costs = table;
+    made.number
 }
 
 // A palette's n, colours and orientation in one array.
