@@ -13,7 +13,8 @@
  *    to nearest, neither flush-to-zero nor denormals-are-zero, exceptions masked.
  *
  * The last matters for palette_search alone. palette_pred makes floats of whole numbers below
- * 4096, which is exact in every environment, and the others have none. A program starts in the
+ * 4096 and palette_costs of sixteenths up to 15, which is exact in every environment, and the
+ * others have none. A program starts in the
  * default environment unless it is linked with -ffast-math (or -Ofast, or
  * -funsafe-math-optimizations): that sets flush-to-zero and denormals-are-zero, and the search may
  * then find another palette. fesetround and feenableexcept leave it too, and so may a library.
@@ -21,7 +22,7 @@
  *
  * A function that returns uint32_t returns the documents' number: 0 if accepted, else the first
  * of its tests that fails. After a refusal every lent buffer (map, flags, words, values) is as it
- * was, and every other result (context, found, bits, listed, read) is 0 throughout.
+ * was, and every other result (context, costs, found, bits, listed, read) is 0 throughout.
  *
  * All functions may be called from several threads at once: they share nothing.
  */
@@ -45,6 +46,7 @@ extern "C" {
 #define PALETTE_MAX_CACHE 64
 #define PALETTE_MAX_WORDS 4234
 #define PALETTE_COSTS 301
+#define PALETTE_ADAPTED 260
 
 /*
  * Document 01's numbers, and from 19 on document 02's. 17 is given only by programs that read a
@@ -74,6 +76,8 @@ extern "C" {
 #define PALETTE_WORD 21         /* kind or first field not the one due, or second beyond range */
 #define PALETTE_WORDS_LEFT 22   /* words left over behind the list */
 #define PALETTE_NOT_LISTED 23   /* reads to its end, but the listing would not write it */
+#define PALETTE_ADAPTED_LENGTH 24 /* adapted table of a length other than 0 or 260 */
+#define PALETTE_ADAPTED_ROWS 25   /* its rows not strictly falling, or unused places not 0 */
 
 /*
  * Whether a block of these sides, in units of four samples, may have a palette: each at most 16,
@@ -90,6 +94,19 @@ bool palette_block_allowed(size_t bw4, size_t bh4);
  */
 uint32_t palette_context(const uint8_t *map, size_t cells, size_t stride, size_t y, size_t x,
                          size_t n, uint32_t context[9]);
+
+/*
+ * Makes the 301 costs that palette_search takes, equal on every machine to the last bit. `adapted`
+ * holds a tile's rows, 260 numbers, each falling from above over 32768: mode 1, size 6, row 4 x 2
+ * (line context), colour 7 x 5 x 7 (n from 2, context; n - 1 numbers, then zeros). With `numbers`
+ * 0 none are lent, and the default rows serve. A symbol of probability p / 32768 costs c / 16, with
+ * c the largest whole number where 2^c p^16 <= 2^240; places of ranks that n colours do not have
+ * cost 0.
+ *
+ * Returns 0, or 24, 25, tested in this order. Writes `costs`, 301 from 0 to 15, in the order that
+ * palette_search takes.
+ */
+uint32_t palette_costs(const uint16_t *adapted, size_t numbers, float costs[301]);
 
 /*
  * Finds the palette of a block of width x height samples, row by row, of bd bits each. `lambda`

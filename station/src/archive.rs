@@ -55,6 +55,8 @@ extern "C" {
         context: *mut [u32; 9],
     ) -> u32;
 
+    fn palette_costs(adapted: *const u16, numbers: usize, costs: *mut [f32; 301]) -> u32;
+
     fn palette_search(
         samples: *const f32,
         count: usize,
@@ -137,6 +139,12 @@ pub(crate) fn context(
 ) -> u32 {
     // SAFETY: pointer and length are of one slice; `answer` is borrowed for this call alone.
     in_default(|| unsafe { palette_context(map.as_ptr(), map.len(), stride, y, x, n, answer) })
+}
+
+/// The number; `table` becomes the costs.
+pub(crate) fn costs(adapted: &[u16], table: &mut [f32; 301]) -> u32 {
+    // SAFETY: pointer and length are of one slice; `table` is borrowed for this call alone.
+    in_default(|| unsafe { palette_costs(adapted.as_ptr(), adapted.len(), table) })
 }
 
 /// The number; `found` becomes n, eight colours and orientation, `bits` the estimate.

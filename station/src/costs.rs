@@ -1,8 +1,7 @@
 //! What each symbol costs in bits, as the search weighs it.
 
 use crate::limits::COSTS;
-use crate::tables::{COLOR_ICDF, ROW_ICDF, Y_MODE_ICDF, Y_SIZE_ICDF};
-use crate::Refusal;
+use crate::{archive, Refusal};
 
 const MODE: usize = 0;
 const SIZE: usize = 2;
@@ -35,19 +34,48 @@ const COLOR: usize = 21;
 pub struct Costs([f32; COSTS]);
 
 impl Costs {
-    /// The default tables' costs: of each symbol, minus the binary logarithm of its share.
+    /// The costs from a tile's adapted rows: document 02's rule in sixteenths of a bit, so that
+    /// they are equal on every machine to the last bit.
     ///
-    /// They are worked out in whole numbers while this package is built. A machine's own
-    /// logarithm may differ in the last bit from another's, and then so might the lists.
+    /// The rows stand one behind the other, [`ADAPTED`](crate::ADAPTED) numbers in all, each
+    /// falling from above over 32,768: mode 1, size 6, row 4 × 2 (by line context), colour
+    /// 7 × 5 × 7 (by n from 2, then by context; n - 1 numbers, then zeros). A symbol of
+    /// probability p / 32,768 costs c / 16, where c is the largest whole number with
+    /// 2^c · p^16 ≤ 2^240. Places of ranks that n colours do not have cost 0.
+    ///
+    /// No numbers at all lend no rows: that gives the default costs. Any other length is refused
+    /// by 24, rows that do not fall or places behind them that are not 0 by 25.
     ///
     /// ```
-    /// use palette_station::Costs;
+    /// use palette_station::{Costs, Refusal, ADAPTED};
     ///
-    /// // Two colours at context 1: both ranks have half of the frequencies.
-    /// assert_eq!(Costs::DEFAULT.color(2, 1, 0), Some(1.0));
-    /// assert_eq!(Costs::DEFAULT.color(2, 1, 1), Some(1.0));
+    /// // Every symbol of a row as likely as the others, but for what does not divide.
+    /// let mut rows = [0; ADAPTED];
+    /// let even = |row: &mut [u16]| {
+    ///     let symbols = row.len() as u16 + 1;
+    ///     (1..).zip(row).for_each(|(s, number)| *number = 32_768 / symbols * (symbols - s));
+    /// };
+    /// even(&mut rows[..1]);
+    /// even(&mut rows[1..7]);
+    /// rows[7..15].chunks_mut(2).for_each(even);
+    /// for (place, row) in rows[15..].chunks_mut(7).enumerate() {
+    ///     even(&mut row[..place / 5 + 1]);
+    /// }
+    /// let costs = Costs::adapted(&rows)?;
+    /// assert_eq!(costs.mode(true), 1.0);
+    /// assert_eq!(costs.color(4, 2, 3), Some(2.0));
+    /// assert_eq!(costs.color(8, 0, 7), Some(3.0));
+    ///
+    /// rows[0] = 32_768;
+    /// assert_eq!(Costs::adapted(&rows), Err(Refusal::ADAPTED_ROWS));
+    /// assert_eq!(Costs::adapted(&rows[1..]), Err(Refusal::ADAPTED_LENGTH));
+    /// # Ok::<(), Refusal>(())
     /// ```
-    pub const DEFAULT: Costs = Costs(default_table());
+    pub fn adapted(rows: &[u16]) -> Result<Costs, Refusal> {
+        let mut table = [0.0; COSTS];
+        Refusal::check(archive::costs(rows, &mut table))?;
+        Ok(Costs(table))
+    }
 
     /// Costs of one's own, in the order above. The search tests the entries.
     ///
@@ -82,7 +110,7 @@ impl Costs {
     /// ```
     /// use palette_station::Costs;
     ///
-    /// assert!(Costs::DEFAULT.as_table().iter().all(|cost| (0.0..=32.0).contains(cost)));
+    /// assert!(Costs::default().as_table().iter().all(|cost| (0.0..=32.0).contains(cost)));
     /// ```
     pub const fn as_table(&self) -> &[f32; COSTS] {
         &self.0
@@ -93,7 +121,7 @@ impl Costs {
     /// ```
     /// use palette_station::Costs;
     ///
-    /// assert!(Costs::DEFAULT.mode(true) > Costs::DEFAULT.mode(false));
+    /// assert!(Costs::default().mode(true) > Costs::default().mode(false));
     /// ```
     pub fn mode(&self, palette: bool) -> f32 {
         self.0[MODE + usize::from(palette)]
@@ -104,8 +132,8 @@ impl Costs {
     /// ```
     /// use palette_station::Costs;
     ///
-    /// assert!(Costs::DEFAULT.size(2).is_some());
-    /// assert_eq!(Costs::DEFAULT.size(9), None);
+    /// assert!(Costs::default().size(2).is_some());
+    /// assert_eq!(Costs::default().size(9), None);
     /// ```
     pub fn size(&self, n: usize) -> Option<f32> {
         (2..=8).contains(&n).then(|| self.0[SIZE + n - 2])
@@ -116,9 +144,9 @@ impl Costs {
     /// ```
     /// use palette_station::Costs;
     ///
-    /// assert!(Costs::DEFAULT.row(2, 2).is_some());
-    /// assert_eq!(Costs::DEFAULT.row(4, 0), None);
-    /// assert_eq!(Costs::DEFAULT.row(0, 3), None);
+    /// assert!(Costs::default().row(2, 2).is_some());
+    /// assert_eq!(Costs::default().row(4, 0), None);
+    /// assert_eq!(Costs::default().row(0, 3), None);
     /// ```
     pub fn row(&self, context: usize, flag: usize) -> Option<f32> {
         (context < 4 && flag < 3).then(|| self.0[ROW + context * 3 + flag])
@@ -129,9 +157,9 @@ impl Costs {
     /// ```
     /// use palette_station::Costs;
     ///
-    /// assert!(Costs::DEFAULT.color(3, 4, 2).is_some());
-    /// assert_eq!(Costs::DEFAULT.color(3, 4, 3), None);
-    /// assert_eq!(Costs::DEFAULT.color(3, 5, 0), None);
+    /// assert!(Costs::default().color(3, 4, 2).is_some());
+    /// assert_eq!(Costs::default().color(3, 4, 3), None);
+    /// assert_eq!(Costs::default().color(3, 5, 0), None);
     /// ```
     pub fn color(&self, n: usize, context: usize, rank: usize) -> Option<f32> {
         let there = (2..=8).contains(&n) && context < 5 && rank < n;
@@ -139,116 +167,18 @@ impl Costs {
     }
 }
 
-/// The default tables' costs.
+/// The costs from the default rows, which are maroontree's; see [`Costs::adapted`] for the rule.
 ///
 /// ```
 /// use palette_station::Costs;
 ///
-/// assert_eq!(Costs::default(), Costs::DEFAULT);
+/// // Two colours at context 1: both ranks have half of the frequencies.
+/// assert_eq!(Costs::default().color(2, 1, 0), Some(1.0));
+/// assert_eq!(Costs::default(), Costs::adapted(&[])?);
+/// # Ok::<(), palette_station::Refusal>(())
 /// ```
 impl Default for Costs {
     fn default() -> Costs {
-        Costs::DEFAULT
+        Costs::adapted(&[]).expect("none lent is never refused")
     }
-}
-
-const fn default_table() -> [f32; COSTS] {
-    let mut table = [0.0; COSTS];
-    table = with_row(table, MODE, &[Y_MODE_ICDF], 2);
-    table = with_row(table, SIZE, &Y_SIZE_ICDF, 7);
-    let mut context = 0;
-    while context < 4 {
-        table = with_row(table, ROW + context * 3, &ROW_ICDF[context], 3);
-        context += 1;
-    }
-    let mut row = 0;
-    while row < 35 {
-        let icdf = &COLOR_ICDF[row / 5][row % 5];
-        table = with_row(table, COLOR + row * 8, icdf, row / 5 + 2);
-        row += 1;
-    }
-    table
-}
-
-/// Puts the costs of a row's symbols at their places.
-const fn with_row(
-    mut table: [f32; COSTS],
-    from: usize,
-    icdf: &[u16],
-    symbols: usize,
-) -> [f32; COSTS] {
-    let mut above = WHOLE;
-    let mut symbol = 0;
-    while symbol < symbols {
-        let below = if symbol + 1 < symbols {
-            icdf[symbol] as u32
-        } else {
-            0
-        };
-        table[from + symbol] = cost_of_share(above - below);
-        above = below;
-        symbol += 1;
-    }
-    table
-}
-
-const WHOLE: u32 = 1 << 15;
-
-/// Digits after the binary point; with 15 before it the sum is still exact in f64.
-const DIGITS: u32 = 48;
-
-/// Minus the binary logarithm of share / 32,768, for a share of 1 to 32,768.
-///
-/// The logarithm's digits come one by one: square a number between 1 and 2; if the square is 2
-/// or more, the digit is 1 and the square is halved. The error stays below two units of the last
-/// digit, 2^-47, so the last step rounds to the nearest f32.
-const fn cost_of_share(share: u32) -> f32 {
-    let whole = share.ilog2();
-    let mut rest = (share as u128) << (63 - whole);
-    let mut log = whole as u64;
-    let mut digit = 0;
-    while digit < DIGITS {
-        rest = (rest * rest) >> 63;
-        let carry = (rest >> 64) as u32;
-        rest >>= carry;
-        log = (log << 1) | carry as u64;
-        digit += 1;
-    }
-    let cost = (15 << DIGITS) - log;
-    (cost as f64 / (1u64 << DIGITS) as f64) as f32
-}
-
-#[cfg(test)]
-mod tests {
-    use super::*;
-
-    /// Beside the machine's own logarithm, of which only the last bit may differ.
-    #[test]
-    fn close_to_the_machines_logarithm() {
-        for share in 1..=WHOLE {
-            let ours = cost_of_share(share);
-            let theirs = -(f64::from(share) / f64::from(WHOLE)).log2() as f32;
-            let apart = ours.to_bits().abs_diff((theirs + 0.0).to_bits());
-            assert!(apart <= 1, "share {share}: {ours} beside {theirs}");
-        }
-    }
-
-    #[test]
-    fn powers_of_two_are_exact() {
-        for power in 0..=15 {
-            assert_eq!(cost_of_share(1 << power), (15 - power) as f32);
-        }
-    }
-
-    /// A change of any entry shows on every machine. The number is that of the table which
-    /// `tests/oracle.rs` holds to the original's, bit by bit.
-    #[test]
-    fn the_default_table_is_the_same_everywhere() {
-        let hash = Costs::DEFAULT.0.iter().fold(0u64, |hash, cost| {
-            (hash * 65_599 + u64::from(cost.to_bits())) % 4_294_967_291
-        });
-        assert_eq!(hash, DEFAULT_HASH);
-    }
-
-    const DEFAULT_HASH: u64 = 4_067_542_349;
 }

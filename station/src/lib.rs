@@ -59,13 +59,12 @@ mod refusal;
 pub mod report;
 mod search;
 pub mod sheet;
-pub mod tables;
 
 pub use calls::{replay, Call, Calls, Coder, UnknownWord};
 pub use context::{context, Context};
 pub use costs::Costs;
 pub use limits::{
-    word_room, COSTS, MAX_CACHE, MAX_CELLS, MAX_COLORS, MAX_LINES, MAX_SIDE, MAX_WORDS,
+    word_room, ADAPTED, COSTS, MAX_CACHE, MAX_CELLS, MAX_COLORS, MAX_LINES, MAX_SIDE, MAX_WORDS,
 };
 pub use listing::{list, list_into, Listing, ListingView};
 pub use palette::{Colors, Palette, PaletteView};

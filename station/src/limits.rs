@@ -45,6 +45,14 @@ pub const MAX_CACHE: usize = 64;
 /// ```
 pub const COSTS: usize = 301;
 
+/// The length of a table of adapted rows.
+///
+/// ```
+/// // Mode, size, row and colour: each row has a number fewer than it has symbols.
+/// assert_eq!(palette_station::ADAPTED, 1 + 6 + 4 * 2 + 7 * 5 * 7);
+/// ```
+pub const ADAPTED: usize = 260;
+
 /// The most words that a list has: room for any listing.
 ///
 /// ```

@@ -76,10 +76,12 @@ refusals! {
     WORD = 21: "a word whose kind or first field is not the one due, or whose second is beyond its range"
     WORDS_LEFT = 22: "words left over behind the list"
     NOT_LISTED = 23: "a list that reads to its end but that the listing would not write"
+    ADAPTED_LENGTH = 24: "an adapted table of a length other than 0 or 260"
+    ADAPTED_ROWS = 25: "an adapted table whose used rows do not fall strictly from at most 32,767 to at least 1, or whose unused places are not 0"
 }
 
 impl Refusal {
-    /// The number, 1 to 23.
+    /// The number, 1 to 25.
     ///
     /// ```
     /// use palette_station::Refusal;
@@ -97,11 +99,11 @@ impl Refusal {
     ///
     /// assert_eq!(Refusal::from_number(9), Some(Refusal::ONE_LEVEL));
     /// assert_eq!(Refusal::from_number(0), None);
-    /// assert_eq!(Refusal::from_number(24), None);
+    /// assert_eq!(Refusal::from_number(26), None);
     /// ```
     pub const fn from_number(number: u32) -> Option<Refusal> {
         match number {
-            1..=23 => Some(Refusal { number }),
+            1..=25 => Some(Refusal { number }),
             _ => None,
         }
     }

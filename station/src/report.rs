@@ -11,7 +11,7 @@
 //! for ink in [20.0, 255.0] {
 //!     let samples = [[ink; 16], [255.0; 16]].concat();
 //!     let block = Block { samples: &samples, width: 16, height: 2, bd: 8 };
-//!     let found = search_into(&block, 60.0, &Costs::DEFAULT, &mut map, &mut flags);
+//!     let found = search_into(&block, 60.0, &Costs::default(), &mut map, &mut flags);
 //!     report.push(found.and_then(|palette| {
 //!         let listing = list_into(&palette, &[], &mut words)?;
 //!         Ok(Listed::of(&palette, &listing))

@@ -49,12 +49,12 @@ pub fn block_allowed(bw4: usize, bh4: usize) -> bool {
 ///
 /// let samples: Vec<f32> = (0..256).map(|place| (place / 128 * 200) as f32).collect();
 /// let block = Block { samples: &samples, width: 16, height: 16, bd: 8 };
-/// let palette = search(&block, 60.0, &Costs::DEFAULT)?;
+/// let palette = search(&block, 60.0, &Costs::default())?;
 /// assert_eq!(palette.colors[..], [0, 200]);
 /// assert_eq!(palette.color_at(15, 15), Some(200));
 ///
 /// let blank = Block { samples: &[255.0; 256], ..block };
-/// let refusal = search(&blank, 60.0, &Costs::DEFAULT).unwrap_err();
+/// let refusal = search(&blank, 60.0, &Costs::default()).unwrap_err();
 /// assert_eq!(refusal, Refusal::ONE_LEVEL);
 /// assert!(refusal.means_no_palette());
 /// # Ok::<(), Refusal>(())

@@ -229,7 +229,7 @@ impl Settings {
             side: MAX_SIDE,
             levels: None,
             lambda: 60.0 * (1 << (2 * more)) as f32,
-            costs: Costs::DEFAULT,
+            costs: Costs::default(),
         }
     }
 }

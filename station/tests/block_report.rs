@@ -84,7 +84,7 @@ fn searched_blocks_with_and_without_palette() {
     let (mut report, mut lines) = (Report::new(), Vec::new());
     for _ in 0..60 {
         let drawn = random.drawn();
-        let found = search(&drawn.block(), 60.0, &Costs::DEFAULT);
+        let found = search(&drawn.block(), 60.0, &Costs::default());
         let number = |refusal: &Refusal| u64::from(refusal.number());
         lines.push(found.as_ref().map_err(number).and_then(line));
         report.push(found.and_then(|palette| listed(&palette)));

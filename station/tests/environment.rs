@@ -140,7 +140,7 @@ fn ordinary(random: &mut Random) -> Case {
     Case {
         drawn: random.drawn(),
         lambda: random.below(40_000) as f32 / 128.0,
-        costs: Costs::DEFAULT,
+        costs: Costs::default(),
     }
 }
 

@@ -12,7 +12,7 @@ fn found(random: &mut Random, blocks: usize) -> Vec<Palette> {
     let one = |random: &mut Random| {
         let drawn = random.drawn();
         let lambda = [0.0, 0.5, 20.0, 60.0, 200.0][random.between(0, 4)];
-        search(&drawn.block(), lambda, &Costs::DEFAULT).ok()
+        search(&drawn.block(), lambda, &Costs::default()).ok()
     };
     (0..blocks).filter_map(|_| one(random)).collect()
 }

@@ -71,7 +71,7 @@ fn one_orientation_bit_below_64() {
     let samples = halves(64 * 8);
     let orientation = |width| {
         let block = block(&samples[..width * 8], width, 8);
-        let palette = search(&block, 0.0, &Costs::DEFAULT).unwrap();
+        let palette = search(&block, 0.0, &Costs::default()).unwrap();
         let listing = list(&palette, &[]).unwrap();
         let calls: Vec<Call> = listing.calls().map(Result::unwrap).collect();
         let first_row = calls

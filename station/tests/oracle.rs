@@ -139,7 +139,7 @@ fn default_costs_as_the_oracles() {
     let mut compared = 0;
     for [_, case, _] in logarithms {
         let field = case.split(' ').nth(5).expect("a search has costs");
-        assert_eq!(floats(field), Costs::DEFAULT.as_table());
+        assert_eq!(floats(field), Costs::default().as_table());
         compared += 1;
     }
     assert!(cases.is_empty() || compared > 0);

@@ -12,7 +12,7 @@ use palette_station::{
 fn search_number(change: impl FnOnce(&mut Block, &mut f32, &mut [f32; 301])) -> u32 {
     let samples = halves(32);
     let (mut block, mut lambda) = (block(&samples, 16, 2), 60.0);
-    let mut table = *Costs::DEFAULT.as_table();
+    let mut table = *Costs::default().as_table();
     change(&mut block, &mut lambda, &mut table);
     let found = search(&block, lambda, &Costs::from_table(table));
     found.map_or_else(Refusal::number, |_| 0)
@@ -29,7 +29,7 @@ fn search_1_to_10() {
     assert_eq!(search_number(|block, _, _| block.samples = &[256.0; 32]), 6);
     let samples = halves(32);
     let (mut map, mut flags) = ([0; 32], [0; 15]);
-    let costs = Costs::DEFAULT;
+    let costs = Costs::default();
     let refused = search_into(&block(&samples, 16, 2), 60.0, &costs, &mut map, &mut flags);
     assert_eq!(refused, Err(Refusal::ROOM));
     assert_eq!(

@@ -196,7 +196,7 @@ fn found_palettes_are_in_order() {
     for _ in 0..300 {
         let drawn = random.drawn();
         let lambda = random.between(0, 300) as f32;
-        let Ok(palette) = search(&drawn.block(), lambda, &Costs::DEFAULT) else {
+        let Ok(palette) = search(&drawn.block(), lambda, &Costs::default()) else {
             continue;
         };
         found += 1;

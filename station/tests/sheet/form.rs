@@ -29,7 +29,7 @@ pub fn sheet(random: &mut Random) -> Sheet {
 }
 
 pub fn settings(random: &mut Random, bd: u32) -> Settings {
-    let mut table = *Costs::DEFAULT.as_table();
+    let mut table = *Costs::default().as_table();
     table[random.between(0, 300)] = random.below(33) as f32;
     Settings {
         side: [1, 7, 16, 20, 32, 64][random.between(0, 5)],
