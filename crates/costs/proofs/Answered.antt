@@ -9,9 +9,8 @@ use lib.ListN.{length, replicate}
 use lib.Ieee.{Float, binary32, ofBits}
 use borrow.Author.Tests.{eqb-true, eq-eqb, ne-eqb}
 use Rattle.lists.proofs.Choice.{held}
-use Rattle.costs.specs.Layout.{defaults, defaultAt, each, rowsOk}
-use Rattle.costs.specs.Costs.{costAt, tableOf, costsNumber, costsOf, MakesCosts}
-use Rattle.costs.proofs.Places.{each-length}
+use Rattle.costs.specs.Rows.{defaults, rowsOk}
+use Rattle.costs.specs.Costs.{tableCosts, tableOf, costsNumber, costsOf, MakesCosts}
 
 -- an accepted table has 0 or 260 numbers
 pub length-known : (adapted : List ℕ) → costsNumber adapted ≡ 0 → (length adapted ≡ 0) ⊎ (length adapted ≡ 260)
@@ -24,26 +23,16 @@ length-known adapted e = go (eqb (length adapted) 0) refl e
     go true t z = inl (eqb-true _ 0 t)
     go false t z = inr (eqb-true _ 260 (held (eqb (length adapted) 260) 23 _ z .0))
 
-pub defaults-length : (table : List ℕ) → table ≡ defaults → length table ≡ 260
-unfolding defaults
-defaults-length table e = rw e (each-length defaultAt 0 260)
-
 module _ (adapted : List ℕ) (n : ℕ) (e : n ≡ costsNumber adapted) where
-  pub accepted : (default : List ℕ) (costs : List Float) → n ≡ 0 → default ≡ defaults
-      → costs ≡ each (costAt (tableOf adapted default)) 301 → MakesCosts adapted (record { number = n; costs = costs })
+  pub accepted : (default : List ℕ) (costs : List Float) → n ≡ 0 → default ≡ defaults → costs ≡ tableCosts (tableOf adapted default)
+      → MakesCosts adapted (record { number = n; costs = costs })
   unfolding costsOf
   accepted default costs z d c =
       let t : eqb (costsNumber adapted) 0 ≡ true = eq-eqb _ 0 (sym e ∙ z) in
-      record { number = e; costs = c ∙ simp t (ap (λ l. each (costAt (tableOf adapted l)) 301) d) }
+      record { number = e; costs = c ∙ simp t (ap (λ l. tableCosts (tableOf adapted l)) d) }
 
-  pub refused : (costs : List Float) → (n ≡ 0 → ⊥) → costs ≡ each (λ k. ofBits binary32 0) 301
-      → MakesCosts adapted (record { number = n; costs = costs })
+  pub refused : (n ≡ 0 → ⊥) → MakesCosts adapted (record { number = n; costs = replicate 301 (ofBits binary32 0) })
   unfolding costsOf
-  refused costs z c =
+  refused z =
       let t : eqb (costsNumber adapted) 0 ≡ false = ne-eqb _ 0 (λ q. z (e ∙ q)) in
-      record { number = e; costs = simp t c }
-
--- `[0.0; 301]`
-pub zeros : replicate 301 (ofBits binary32 0) ≡ each (λ k. ofBits binary32 0) 301
-unfolding each
-zeros = refl
+      record { number = e; costs = simp t }

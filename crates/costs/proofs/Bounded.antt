@@ -2,86 +2,90 @@
 use mathlib.Core.Path.{_≡_, refl}
 use mathlib.Core.Bool.{Bool, true, _&&_}
 use mathlib.Core.List.{List, [], _∷_, _++_}
-use Prim.Native.Nat.{ℕ, zero, suc, _*_, _≤_}
+use Prim.Native.Nat.{ℕ, zero, suc, _+_, _*_, _≤_}
 use native.Mathlib.Omega.{arith}
 use lib.Dec.{eqb, leb}
-use lib.ListN.{length}
+use lib.ListN.{length, replicate}
 use lib.Ieee.{Float, binary32, le, div, ofBits, ofInt}
 use lib.Ieee.Positive.{num, den}
 use borrow.Author.Tests.{eqb-true, eq-eqb}
-use Rattle.lists.specs.Counted.{allBelow}
+use Rattle.lists.specs.Counted.{upTo, allBelow}
 use Rattle.lists.proofs.Choice.{and-l, and-r, and-both, either-way}
 use Rattle.lists.proofs.Counted.{allBelow-at}
-use Rattle.samples.specs.Samples.{inRange, allInRange, costsOk}
+use Rattle.samples.specs.Samples.{inRange, allInRange}
 use Rattle.costs.specs.Cost.{costOf, sixteenths}
-use Rattle.costs.specs.Layout.{each, chanceOf, placeOf, rowIn, defaults}
-use Rattle.costs.specs.Costs.{costIn, costAt, tableOf, costsNumber, costsOf}
+use Rattle.costs.specs.Rows.{rowAt, chanceOf, part, defaults}
+use Rattle.costs.specs.Costs.{costIn, rowCosts, tableOf, tableCosts, costsNumber, costsOf}
+use Rattle.costs.specs.Made as made
 use Rattle.costs.proofs.Largest.{cost-most}
-use Rattle.costs.proofs.Places.{each-length}
+use Rattle.costs.proofs.Placed.{total}
 
 -- within 0..15 and 0..32
-abbrev bounded : Float → Bool
-bounded x = inRange 15 x && inRange 32 x
+abbrev near : Float → Bool
+near x = inRange 15 x && inRange 32 x
 
 abbrev sound : ℕ → Bool
-sound c = bounded (sixteenths c) && eqb (16 * num (sixteenths c)) (c * den (sixteenths c))
+sound c = near (sixteenths c) && eqb (16 * num (sixteenths c)) (c * den (sixteenths c))
 
-whole : allBelow sound 241 ≡ true
+all : allBelow sound 241 ≡ true
 unfolding allBelow sixteenths le ofBits div ofInt
-whole = refl
+all = refl
 
-nothing : bounded (ofBits binary32 0) ≡ true
+nothing : near (ofBits binary32 0) ≡ true
 unfolding le ofBits ofInt
 nothing = refl
 
-module _ (c : ℕ) (h : c ≤ 240) where
-  at : sound c ≡ true
-  at = allBelow-at sound 241 whole c (omega arith)
+at : (c : ℕ) → c ≤ 240 → sound c ≡ true
+at c h = allBelow-at sound 241 all c (omega arith)
 
-  -- the f32 is c / 16, with no rounding
-  pub exact : 16 * num (sixteenths c) ≡ c * den (sixteenths c)
-  exact = eqb-true _ _ (and-r (bounded (sixteenths c)) _ at)
+pub exact : made.SixteenthsExact
+exact c h = eqb-true _ _ (and-r (near (sixteenths c)) _ (at c h))
 
-  near : bounded (sixteenths c) ≡ true
-  near = and-l _ (eqb (16 * num (sixteenths c)) (c * den (sixteenths c))) at
-
-cost-near : (row : List ℕ) (s : ℕ) → bounded (costIn row s) ≡ true
+cost-near : (row : List ℕ) (s : ℕ) → near (costIn row s) ≡ true
 unfolding costIn
 cost-near row s =
-    either-way (λ x. bounded x ≡ true) (leb s (length row)) (sixteenths (costOf (chanceOf row s))) (ofBits binary32 0)
-    (near (costOf (chanceOf row s)) (cost-most (chanceOf row s)))
+    let c = costOf (chanceOf row s) in
+    either-way (λ x. near x ≡ true) (leb s (length row)) (sixteenths c) (ofBits binary32 0)
+    (and-l _ (eqb (16 * num (sixteenths c)) (c * den (sixteenths c))) (at c (cost-most (chanceOf row s))))
     nothing
 
-at-near : (table : List ℕ) (k : ℕ) → bounded (costAt table k) ≡ true
-unfolding costAt
-at-near table k = cost-near (rowIn table (placeOf k .at) (placeOf k .len)) (placeOf k .symbol)
-
--- every cost lies within 0..15
-pub cost-in-range : (table : List ℕ) (k : ℕ) → inRange 15 (costAt table k) ≡ true
-cost-in-range table k = and-l _ (inRange 32 (costAt table k)) (at-near table k)
-
-range-more : (top : ℕ) (xs : List Float) (x : Float) → allInRange top xs ≡ true → inRange top x ≡ true → allInRange top (xs ++ (x ∷ [])) ≡ true
+range-append : (top : ℕ) (xs ys : List Float) → allInRange top xs ≡ true → allInRange top ys ≡ true → allInRange top (xs ++ ys) ≡ true
 unfolding allInRange
-range-more top [] x e h = and-both (inRange top x) true h refl
-range-more top (y ∷ ys) x e h =
-    and-both (inRange top y) (allInRange top (ys ++ (x ∷ []))) (and-l (inRange top y) (allInRange top ys) e)
-    (range-more top ys x (and-r (inRange top y) (allInRange top ys) e) h)
+range-append top [] ys a b = b
+range-append top (x ∷ xs) ys a b =
+    and-both (inRange top x) (allInRange top (xs ++ ys)) (and-l (inRange top x) (allInRange top xs) a)
+    (range-append top xs ys (and-r (inRange top x) (allInRange top xs) a) b)
 
-range-each : (top : ℕ) (f : ℕ → Float) (n : ℕ) → ((k : ℕ) → inRange top (f k) ≡ true) → allInRange top (each f n) ≡ true
-unfolding allInRange each
-range-each top f zero g = refl
-range-each top f (suc n) g = range-more top (each f n) (f n) (range-each top f n g) (g n)
+range-upTo : (top : ℕ) (f : ℕ → List Float) (n : ℕ) → ((k : ℕ) → allInRange top (f k) ≡ true) → allInRange top (upTo f n) ≡ true
+unfolding allInRange upTo
+range-upTo top f zero g = refl
+range-upTo top f (suc n) g = range-append top (upTo f n) (f n) (range-upTo top f n g) (g n)
 
-passes : (f : ℕ → Float) → ((k : ℕ) → bounded (f k) ≡ true) → costsOk (each f 301) ≡ true
-passes f g =
-    and-both (eqb (length (each f 301)) 301) (allInRange 32 (each f 301)) (eq-eqb _ 301 (each-length f (ofBits binary32 0) 301))
-    (range-each 32 f 301 (λ k. and-r (inRange 15 (f k)) (inRange 32 (f k)) (g k)))
+-- the costs of a table are in a range that each cost is in
+module _ (top : ℕ) (each-in : (row : List ℕ) (s : ℕ) → inRange top (costIn row s) ≡ true) where
+  one : (row : List ℕ) (s : ℕ) → allInRange top (costIn row s ∷ []) ≡ true
+  unfolding allInRange
+  one row s = and-both (inRange top (costIn row s)) true (each-in row s) refl
 
--- whatever is lent, the costs of the answer pass test 5 of the search
-pub never-5 : (adapted : List ℕ) → costsOk (costsOf adapted) ≡ true
+  table-in : (table : List ℕ) → allInRange top (tableCosts table) ≡ true
+  unfolding tableCosts rowCosts
+  table-in table =
+      range-upTo top (rowCosts table) 41
+      (λ r. let row = part table (rowAt r .at) (rowAt r .used) in range-upTo top (λ s. costIn row s ∷ []) (rowAt r .room + 1) (one row))
+
+zeros-in : allInRange 15 (replicate 301 (ofBits binary32 0)) && allInRange 32 (replicate 301 (ofBits binary32 0)) ≡ true
+unfolding allInRange le ofBits ofInt
+zeros-in = refl
+
+pub always-bounded : made.AlwaysBounded
 unfolding costsOf
-never-5 adapted =
-    either-way (λ l. costsOk l ≡ true) (eqb (costsNumber adapted) 0) (each (costAt (tableOf adapted defaults)) 301)
-    (each (λ k. ofBits binary32 0) 301)
-    (passes (costAt (tableOf adapted defaults)) (at-near (tableOf adapted defaults)))
-    (passes (λ k. ofBits binary32 0) (λ k. nothing))
+always-bounded adapted =
+    let zeros = replicate 301 (ofBits binary32 0) in
+    let table = tableOf adapted defaults in
+    either-way (λ l. made.Bounded l) (eqb (costsNumber adapted) 0) (tableCosts table) zeros
+    (record {
+      range = table-in 15 (λ row s. and-l _ (inRange 32 (costIn row s)) (cost-near row s)) table;
+      passes = and-both (eqb (length (tableCosts table)) 301) (allInRange 32 (tableCosts table)) (eq-eqb _ 301 (total table))
+          (table-in 32 (λ row s. and-r (inRange 15 (costIn row s)) _ (cost-near row s)) table);
+    })
+    (record { range = and-l _ (allInRange 32 zeros) zeros-in; passes = and-r (allInRange 15 zeros) _ zeros-in })

@@ -1,22 +1,27 @@
 -- Document 02, L5: the number and the 301 costs for an adapted table, or for none.
-use Prim.Native.Nat.{ℕ}
+use Prim.Native.Nat.{ℕ, _+_}
 use mathlib.Core.Path.{_≡_}
 use mathlib.Core.Bool.{cond, not}
 use mathlib.Core.List.{List}
 use lib.Dec.{leb, eqb}
-use lib.ListN.{length}
+use lib.ListN.{length, replicate}
 use lib.Ieee.{Float, binary32, ofBits}
+use Rattle.lists.specs.Counted.{upTo, each}
 use Rattle.costs.specs.declared.Costs.{Costs}
 use Rattle.costs.specs.Cost.{costOf, sixteenths}
-use Rattle.costs.specs.Layout.{placeOf, chanceOf, rowIn, rowsOk, defaults, each}
+use Rattle.costs.specs.Rows.{rowAt, part, defaults, chanceOf, rowsOk}
 
 -- the cost of symbol s of a row; unused ones cost 0
 unfoldable pub costIn : List ℕ → ℕ → Float
 costIn row s = cond (leb s (length row)) (sixteenths (costOf (chanceOf row s))) (ofBits binary32 0)
 
--- cost k from a table
-unfoldable pub costAt : List ℕ → ℕ → Float
-costAt table k = let p = placeOf k in costIn (rowIn table (p .at) (p .len)) (p .symbol)
+-- the costs of row r: one more than it has places
+unfoldable pub rowCosts : List ℕ → ℕ → List Float
+rowCosts table r = let p = rowAt r in each (costIn (part table (p .at) (p .used))) (p .room + 1)
+
+-- mode 2, size 7, rows 4 × 3, colours 7 × 5 × 8
+unfoldable pub tableCosts : List ℕ → List Float
+tableCosts table = upTo (rowCosts table) 41
 
 -- the adapted table when one is lent, else the default
 abbrev pub tableOf : List ℕ → List ℕ → List ℕ
@@ -29,9 +34,9 @@ costsNumber adapted =
 
 -- the 301 costs; zeros after a refusal
 unfoldable pub costsOf : List ℕ → List Float
-costsOf adapted = cond (eqb (costsNumber adapted) 0) (each (costAt (tableOf adapted defaults)) 301) (each (λ k. ofBits binary32 0) 301)
+costsOf adapted = cond (eqb (costsNumber adapted) 0) (tableCosts (tableOf adapted defaults)) (replicate 301 (ofBits binary32 0))
 
--- what `costs` answers
+-- what `make_costs` answers
 pub record MakesCosts (adapted : List ℕ) (r : Costs) : Type 0 where
   pub number : r .number ≡ costsNumber adapted
   pub costs : r .costs ≡ costsOf adapted

@@ -3,10 +3,10 @@ ghost use mathlib.Core.Path.{_≡_};
 ghost use mathlib.Core.Logic.{_⊎_};
 ghost use Prim.Native.Nat.{_+_, _≤_, _<_};
 ghost use lib.ListN.{length, getD};
-ghost use lib.Ieee.{binary32};
 ghost use Rattle.costs.specs.Cost.{costOf, sixteenths};
-ghost use Rattle.costs.specs.Layout.{before, chanceOf, rowIn, placeOf, slotOf, slotOk, rowsOk, defaultAt, defaults, each};
-ghost use Rattle.costs.specs.Costs.{costIn, costAt, tableOf, costsNumber, MakesCosts};
+ghost use Rattle.lists.specs.Counted.{each};
+ghost use Rattle.costs.specs.Rows.{before, chanceOf, rowAt, part, defaults, numberOk, rowOk, rowsOk};
+ghost use Rattle.costs.specs.Costs.{costIn, tableCosts, tableOf, costsNumber, MakesCosts};
 
 // t[c] is the largest p with 2^c * p^16 <= 2^240. From 171 on neighbours may be equal: the last one counts.
 const THRESHOLDS: [u16; 241] = [
@@ -259,15 +259,15 @@ pub struct Costs {
     pub costs: [f32; 301],
 }
 
-// A row of a table, by its start and the count of its numbers in use, and a symbol of it.
-pub struct Place {
+// A row of a table: where it starts, how many of its numbers are used, and how many places it has.
+pub struct Row {
     pub at: usize,
-    pub len: usize,
-    pub symbol: usize,
+    pub used: usize,
+    pub room: usize,
 }
 
-// The last c whose threshold is at least p.
-fn cost_of(p: u16) -> u16
+// The cost of probability p in sixteenths of a bit: the last c whose threshold is at least p.
+pub fn cost_of(p: u16) -> u16
     ensures { λ r. ⌜ r ≡ costOf p ⌝ }
 {
     let mut low: usize = 0;
@@ -329,10 +329,55 @@ fn cost_in(row: &[u16], s: usize) -> f32
     sixteenth(cost_of(chance(row, s)))
 }
 
+// The costs of a row's symbols, and zeros for the unused ones behind them.
+fn put_costs(row: &[u16], costs: &mut [f32])
+    ensures { λ r. ⌜ now (costs .exit) ≡ each (costIn (now (row .entry))) (length (now (costs .entry))) ⌝ }
+{
+    let mut s: usize = 0;
+    while s < costs.len() {
+        costs[s] = cost_in(row, s);
+        s += 1;
+    }
+}
+
+// Row r: mode, size, one for each of four line contexts, then one for each of five contexts for each n from 2.
+fn row_at(r: usize) -> Row
+    requires { ⌜ r < 41 ⌝ }
+    ensures { λ row. ⌜ row ≡ rowAt r ⌝ }
+{
+    if r < 1 {
+        return Row {
+            at: 0,
+            used: 1,
+            room: 1,
+        };
+    }
+    if r < 2 {
+        return Row {
+            at: 1,
+            used: 6,
+            room: 6,
+        };
+    }
+    if r < 6 {
+        return Row {
+            at: 7 + (r - 2) * 2,
+            used: 2,
+            room: 2,
+        };
+    }
+    let k = r - 6;
+    Row {
+        at: 15 + k * 7,
+        used: k / 5 + 1,
+        room: 7,
+    }
+}
+
 // The row comes from the adapted table when one is lent, else from the default.
 fn row_of<'a>(adapted: &'a [u16], default: &'a [u16], at: usize, len: usize) -> &'a [u16]
-    requires { ⌜ (at + len ≤ 260) × (260 ≤ length (now default)) × ((length (now adapted) ≡ 0) ⊎ (length (now adapted) ≡ 260)) ⌝ }
-    ensures { λ r. ⌜ now r ≡ rowIn (tableOf (now (adapted .entry)) (now (default .entry))) at len ⌝ }
+    requires { ⌜ (at + len ≤ 260) × (length (now default) ≡ 260) × ((length (now adapted) ≡ 0) ⊎ (length (now adapted) ≡ 260)) ⌝ }
+    ensures { λ r. ⌜ now r ≡ part (tableOf (now (adapted .entry)) (now (default .entry))) at len ⌝ }
 {
     let end = at + len;
     if adapted.len() == 0 {
@@ -341,75 +386,30 @@ fn row_of<'a>(adapted: &'a [u16], default: &'a [u16], at: usize, len: usize) -> 
     &adapted[at..end]
 }
 
-// The row and the symbol of cost k.
-fn place_of(k: usize) -> Place
-    ensures { λ r. ⌜ r ≡ placeOf k ⌝ }
+// All the costs: each row has one more of them than it has places.
+fn all_costs<'a>(adapted: &'a [u16], default: &'a [u16]) -> [f32; 301]
+    requires { ⌜ (length (now default) ≡ 260) × ((length (now adapted) ≡ 0) ⊎ (length (now adapted) ≡ 260)) ⌝ }
+    ensures { λ r. ⌜ r ≡ tableCosts (tableOf (now (adapted .entry)) (now (default .entry))) ⌝ }
 {
-    if k < 2 {
-        return Place {
-            at: 0,
-            len: 1,
-            symbol: k,
-        };
+    let mut costs = [0.0f32; 301];
+    let mut r: usize = 0;
+    while r < 41 {
+        let row = row_at(r);
+        let from = row.at + r;
+        let to = from + row.room + 1;
+        put_costs(
+            row_of(adapted, default, row.at, row.used),
+            &mut costs[from..to],
+        );
+        r += 1;
     }
-    if k < 9 {
-        return Place {
-            at: 1,
-            len: 6,
-            symbol: k - 2,
-        };
-    }
-    if k < 21 {
-        return Place {
-            at: 7 + (k - 9) / 3 * 2,
-            len: 2,
-            symbol: (k - 9) % 3,
-        };
-    }
-    let j = k - 21;
-    Place {
-        at: 15 + j / 8 * 7,
-        len: j / 40 + 1,
-        symbol: j % 8,
-    }
-}
-
-// The row of number k of a table, and its place there.
-fn slot_of(k: usize) -> Place
-    ensures { λ r. ⌜ r ≡ slotOf k ⌝ }
-{
-    if k < 1 {
-        return Place {
-            at: 0,
-            len: 1,
-            symbol: k,
-        };
-    }
-    if k < 7 {
-        return Place {
-            at: 1,
-            len: 6,
-            symbol: k - 1,
-        };
-    }
-    if k < 15 {
-        return Place {
-            at: 7 + (k - 7) / 2 * 2,
-            len: 2,
-            symbol: (k - 7) % 2,
-        };
-    }
-    let j = k - 15;
-    Place {
-        at: 15 + j / 7 * 7,
-        len: j / 35 + 1,
-        symbol: j % 7,
-    }
+    costs
 }
 
 // Number k of the default table.
 fn default_at(k: usize) -> u16
-    ensures { λ r. ⌜ r ≡ defaultAt k ⌝ }
+    requires { ⌜ k < 260 ⌝ }
+    ensures { λ r. ⌜ r ≡ getD defaults k 0 ⌝ }
 {
     if k < 1 {
         return 2723;
@@ -437,47 +437,29 @@ fn default_table() -> [u16; 260]
     table
 }
 
-// Cost k.
-fn cost_at<'a>(adapted: &'a [u16], default: &'a [u16], k: usize) -> f32
-    requires { ⌜ (k < 301) × (length (now default) ≡ 260) × ((length (now adapted) ≡ 0) ⊎ (length (now adapted) ≡ 260)) ⌝ }
-    ensures { λ r. ⌜ r ≡ costAt (tableOf (now (adapted .entry)) (now (default .entry))) k ⌝ }
+// A used number falls from what stands before it to at least 1, an unused one is 0.
+fn number_ok(row: &[u16], used: usize, s: usize) -> bool
+    ensures { λ r. ⌜ r ≡ numberOk used (now (row .entry)) s ⌝ }
 {
-    let p = place_of(k);
-    let at = p.at;
-    let len = p.len;
-    let symbol = p.symbol;
-    cost_in(row_of(adapted, default, at, len), symbol)
-}
-
-// All the costs.
-fn all_costs<'a>(adapted: &'a [u16], default: &'a [u16]) -> [f32; 301]
-    requires { ⌜ (length (now default) ≡ 260) × ((length (now adapted) ≡ 0) ⊎ (length (now adapted) ≡ 260)) ⌝ }
-    ensures { λ r. ⌜ r ≡ each (costAt (tableOf (now (adapted .entry)) (now (default .entry)))) 301 ⌝ }
-{
-    let mut costs = [0.0f32; 301];
-    let mut k: usize = 0;
-    while k < 301 {
-        costs[k] = cost_at(adapted, default, k);
-        k += 1;
-    }
-    costs
-}
-
-// Number k of a table falls from what stands before it and is at least 1, or is unused and 0.
-fn slot_ok(table: &[u16], k: usize) -> bool
-    requires { ⌜ (k < 260) × (length (now table) ≡ 260) ⌝ }
-    ensures { λ r. ⌜ r ≡ slotOk (now (table .entry)) k ⌝ }
-{
-    let p = slot_of(k);
-    let at = p.at;
-    let len = p.len;
-    let symbol = p.symbol;
-    let x = table[k];
-    if symbol < len {
-        let above = number_before(&table[at..], symbol);
-        return (1 <= x) & (x < above);
+    let x = number_at(row, s);
+    if s < used {
+        return (1 <= x) & (x < number_before(row, s));
     }
     x == 0
+}
+
+// Whether a row of which the first numbers are used is accepted.
+fn row_ok(row: &[u16], used: usize) -> bool
+    ensures { λ r. ⌜ r ≡ rowOk used (now (row .entry)) ⌝ }
+{
+    let mut s: usize = 0;
+    while s < row.len() {
+        if !number_ok(row, used, s) {
+            return false;
+        }
+        s += 1;
+    }
+    true
 }
 
 // Number 25 where this is false.
@@ -485,18 +467,21 @@ fn rows_ok(table: &[u16]) -> bool
     requires { ⌜ length (now table) ≡ 260 ⌝ }
     ensures { λ r. ⌜ r ≡ rowsOk (now (table .entry)) ⌝ }
 {
-    let mut k: usize = 0;
-    while k < 260 {
-        if !slot_ok(table, k) {
+    let mut r: usize = 0;
+    while r < 41 {
+        let row = row_at(r);
+        let at = row.at;
+        let end = at + row.room;
+        if !row_ok(&table[at..end], row.used) {
             return false;
         }
-        k += 1;
+        r += 1;
     }
     true
 }
 
 // The number of the answer.
-fn number_of(adapted: &[u16]) -> u32
+fn costs_number(adapted: &[u16]) -> u32
     ensures { λ r. ⌜ r ≡ costsNumber (now (adapted .entry)) ⌝ }
 {
     if adapted.len() == 0 {
@@ -515,7 +500,7 @@ fn number_of(adapted: &[u16]) -> u32
 pub fn make_costs(adapted: &[u16]) -> Costs
     ensures { λ r. ⌜ MakesCosts (now (adapted .entry)) r ⌝ }
 {
-    let number = number_of(adapted);
+    let number = costs_number(adapted);
     if number == 0 {
         let default = default_table();
         let costs = all_costs(adapted, &default);

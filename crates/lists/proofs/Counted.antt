@@ -1,7 +1,7 @@
 -- What `allBelow` and `allIn` say at one place, and lengths of `upTo`. Assumes nothing.
-use mathlib.Core.Path.{_≡_, refl}
+use mathlib.Core.Path.{_≡_, refl, _∙_}
 use mathlib.Core.Bool.{Bool, true, false, true≢false}
-use mathlib.Core.List.{List, [], _∷_}
+use mathlib.Core.List.{List, [], _∷_, _++_}
 use mathlib.Core.Logic.{⊎-elim}
 use Prim.Native.Nat.{ℕ, zero, suc, _+_, _<_, _≤_}
 use native.Mathlib.Nat.{eq-or-lt-of-le, le-of-suc-le-suc}
@@ -9,7 +9,8 @@ use native.Mathlib.Numerals.{add-one}
 use native.Mathlib.Omega.{arith}
 use lib.Dec.{leb}
 use borrow.Author.Tests.{leb-true}
-use lib.ListN.{length, getD, length-append}
+use lib.ListN.{length, getD, length-append, List·getD-append}
+use lib.Seq.{getD-append-add}
 use Rattle.lists.specs.Counted.{within, upTo, allBelow, allIn, bit}
 use Rattle.lists.proofs.Choice.{and-l, and-r, and-both}
 
@@ -58,16 +59,20 @@ bit-injective false true e = absurd (omega arith)
 bit-injective false false e = refl
 
 -- one word for each number: as many words
-pub length-upTo : (g : ℕ → ℕ) (n : ℕ) → length (upTo (λ i. g i ∷ []) n) ≡ n
+pub length-upTo : {A : Type 0} (g : ℕ → A) (n : ℕ) → length (upTo (λ i. g i ∷ []) n) ≡ n
 unfolding upTo
 length-upTo g zero = refl
 length-upTo g (suc n) = omega (arith, length-append (upTo (λ i. g i ∷ []) n) (g n ∷ []), length-upTo g n)
 
-pub length-more : (f : ℕ → List ℕ) (n : ℕ) → length (upTo f (n + 1)) ≡ length (upTo f n) + length (f n)
+pub upTo-more : {A : Type 0} (f : ℕ → List A) (n : ℕ) → upTo f (n + 1) ≡ upTo f n ++ f n
+unfolding upTo
+upTo-more f n = rw add-one refl
+
+pub length-more : {A : Type 0} (f : ℕ → List A) (n : ℕ) → length (upTo f (n + 1)) ≡ length (upTo f n) + length (f n)
 unfolding upTo
 length-more f n = rw add-one (length-append (upTo f n) (f n))
 
-pub upTo-longer : (f : ℕ → List ℕ) (m n : ℕ) → m ≤ n → length (upTo f m) ≤ length (upTo f n)
+pub upTo-longer : {A : Type 0} (f : ℕ → List A) (m n : ℕ) → m ≤ n → length (upTo f m) ≤ length (upTo f n)
 unfolding upTo
 upTo-longer f m zero h = let e : m ≡ 0 = omega arith in rw e (omega arith)
 upTo-longer f m (suc n) h =
@@ -75,3 +80,14 @@ upTo-longer f m (suc n) h =
     ⊎-elim (λ e. rw e (omega arith))
     (λ l. omega (arith, deeper (le-of-suc-le-suc l), length-append (upTo f n) (f n)))
     (eq-or-lt-of-le h)
+
+-- place k of piece m
+pub upTo-at : {A : Type 0} (f : ℕ → List A) (d : A) (n m k : ℕ) → m < n → k < length (f m) → getD (upTo f n) (length (upTo f m) + k) d ≡ getD (f m) k d
+unfolding upTo
+upTo-at f d zero m k h l = absurd (omega arith)
+upTo-at f d (suc n) m k h l =
+    let deeper : m < n → getD (upTo f n) (length (upTo f m) + k) d ≡ getD (f m) k d = λ b. upTo-at f d n m k b l in
+    ⊎-elim
+    (λ e. rw e (getD-append-add (upTo f n) (f n) k d))
+    (λ b. List·getD-append (upTo f n) (f n) d _ (omega (arith, l, length-more f m, upTo-longer f (m + 1) n (omega arith))) ∙ deeper b)
+    (eq-or-lt-of-le (le-of-suc-le-suc h))

@@ -6,3 +6,4 @@ pub mod Rest
 pub mod Written
 pub mod Zeros
 pub mod Same
+pub mod Each

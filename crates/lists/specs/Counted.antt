@@ -9,9 +9,13 @@ abbrev pub within : ℕ → ℕ → ℕ → Bool
 within a b x = leb a x && leb x b
 
 -- f 0, f 1, .., f (n - 1), one behind the other
-unfoldable pub upTo : (ℕ → List ℕ) → ℕ → List ℕ
+unfoldable pub upTo : {A : Type 0} → (ℕ → List A) → ℕ → List A
 upTo f zero = []
 upTo f (suc n) = upTo f n ++ f n
+
+-- the list of f 0, f 1, .., f (n - 1)
+abbrev pub each : {A : Type 0} → (ℕ → A) → ℕ → List A
+each f n = upTo (λ i. f i ∷ []) n
 
 -- the test passes at 0, 1, .., n - 1
 unfoldable pub allBelow : (ℕ → Bool) → ℕ → Bool
