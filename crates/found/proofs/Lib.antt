@@ -4,3 +4,4 @@ pub mod Valid
 pub mod Accepted
 pub mod Kept
 pub mod Listed
+pub mod MadeCosts
