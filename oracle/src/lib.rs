@@ -16,6 +16,7 @@ pub mod check;
 pub mod generate;
 mod lent;
 pub mod listing_text;
+pub mod made_costs;
 pub mod map_searches;
 mod original;
 mod places;

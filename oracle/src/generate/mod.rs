@@ -18,6 +18,7 @@ macro_rules! kinds {
     };
 }
 
+pub mod adapted;
 pub mod blocks;
 pub mod caches;
 pub mod close;

@@ -22,6 +22,8 @@ pub enum Beside {
     Pieces = 59,
     /// Lists to be read back.
     Read = 58,
+    /// Adapted tables that costs are made from.
+    Adapted = 57,
 }
 
 impl Random {
