@@ -23,6 +23,7 @@ mod places;
 pub mod reading;
 pub mod replay;
 pub mod replay_blocks;
+pub mod replay_costs;
 pub mod replay_reads;
 pub mod report_text;
 pub mod reported;

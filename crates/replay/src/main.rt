@@ -9,8 +9,8 @@ use replaying::bits_of;
 use replaying::pair;
 use replaying::print_buffer;
 use replaying::print_number;
-use replaying::read_cache;
 use replaying::read_front;
+use replaying::read_pairs;
 use replaying::size;
 use replaying::wide;
 ghost use mathlib.Core.Path.{_≡_};
@@ -152,7 +152,7 @@ fn replay(place: u64, a: Asked)
     let cached = a.cached;
     let lines = a.lines;
     let cells = a.cells;
-    read_cache(&mut cache, cached);
+    read_pairs(&mut cache, cached);
     read_front(&mut flags, lines);
     read_front(&mut map, cells);
     print_line(place, a, &cache[..cached], &flags[..lines], &map[..cells]);

@@ -11,8 +11,8 @@ use replaying::four;
 use replaying::lines_of;
 use replaying::print_answer;
 use replaying::print_bytes;
-use replaying::read_cache;
 use replaying::read_front;
+use replaying::read_pairs;
 use replaying::size;
 use replaying::wide;
 use replaying::word;
@@ -100,7 +100,7 @@ fn replay(place: u64, a: Asked)
     let mut words = [0u32; 4240];
     let cached = a.cached;
     let count = a.count;
-    read_cache(&mut cache, cached);
+    read_pairs(&mut cache, cached);
     read_words(&mut words, count);
     print_line(place, a, &cache[..cached], &words[..count]);
 }

@@ -59,15 +59,15 @@ pub fn read_front(bytes: &mut [u8], count: usize)
     io::read_full(0, &mut bytes[..count]);
 }
 
-// Reads as many cache entries into the front, of two bytes each.
-pub fn read_cache(cache: &mut [u16], count: usize)
-    requires { ⌜ (count < 256) × (count ≤ length (now cache)) ⌝ }
+// Reads as many numbers into the front, of two bytes each.
+pub fn read_pairs(numbers: &mut [u16], count: usize)
+    requires { ⌜ (count ≤ 600) × (count ≤ length (now numbers)) ⌝ }
 {
-    let mut bytes = [0u8; 512];
+    let mut bytes = [0u8; 1200];
     read_front(&mut bytes, 2 * count);
     let mut i: usize = 0;
     while i < count {
-        cache[i] = pair(bytes[2 * i], bytes[2 * i + 1]);
+        numbers[i] = pair(bytes[2 * i], bytes[2 * i + 1]);
         i += 1;
     }
 }
@@ -80,7 +80,7 @@ fn hashed(h: u64, word: u32) -> u64
     (h * 65599 + word as u64) % 4294967291
 }
 
-fn hash(words: &[u32; 4240], count: usize) -> u64
+pub fn hash(words: &[u32; 4240], count: usize) -> u64
     requires { ⌜ count ≤ 4240 ⌝ }
 {
     let mut h: u64 = 0;

@@ -4,6 +4,7 @@ use palette_oracle::asking::{self, fresh, hatched, MOST_BLOCKS};
 use palette_oracle::generate::{blocks, caches, contexts, palettes};
 use palette_oracle::replay::{self, replayed};
 use palette_oracle::replay_blocks::{self, replayed_blocks};
+use palette_oracle::replay_costs::{self, replayed_tables, steps};
 use palette_oracle::replay_reads::{self, replayed_reads};
 use palette_oracle::report_text::report;
 use palette_oracle::reported::reported;
@@ -17,6 +18,7 @@ const USAGE: &str =
      | replay-input SEED COUNT | replay-output SEED COUNT\n\
      | replay-blocks-input SEED COUNT | replay-blocks-output SEED COUNT\n\
      | read-input SEED COUNT | read-output SEED COUNT\n\
+     | costs-input SEED COUNT | costs-output SEED COUNT\n\
      | report-input SEED COUNT | report-output SEED COUNT\n\
      | asking-input [SEED COUNT] | asking-output [SEED COUNT]";
 
@@ -43,6 +45,10 @@ fn main() -> ExitCode {
         ["read-output", seed, count] => {
             write_each(seed, count, replayed_reads, output(replay_reads::line))
         }
+        ["costs-input", seed, count] => {
+            write_each(seed, count, replayed_tables, input(replay_costs::bytes))
+        }
+        ["costs-output", seed, count] => write_costs_output(seed, count),
         ["report-input", seed, count] => write_report(seed, count, |text| text),
         ["report-output", seed, count] => write_report(seed, count, |text| report(&text)),
         ["asking-input", ref choice @ ..] => write_asking_input(choice),
@@ -127,6 +133,11 @@ fn write_pieces(pieces: impl Iterator<Item = impl AsRef<[u8]>>) -> Result<(), St
         out.write_all(piece.as_ref()).map_err(|e| e.to_string())?;
     }
     out.flush().map_err(|e| e.to_string())
+}
+
+fn write_costs_output(seed: &str, count: &str) -> Result<(), String> {
+    write_pieces([steps()].into_iter())?;
+    write_each(seed, count, replayed_tables, output(replay_costs::line))
 }
 
 /// Writes the text of the crate `report` in one of its two forms.

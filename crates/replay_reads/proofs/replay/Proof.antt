@@ -5,11 +5,11 @@ use borrow.Author.Needs.{needs}
 use Rattle.replay_reads.proofs.replay.Statement.{statement}
 use Rattle.replay_reads.proofs.replay.Tie as tie
 
-slice-aggregate-read-cache : tie.Need-slice-aggregate-read-cache
-slice-aggregate-read-cache c = search needs
+slice-aggregate-read-pairs : tie.Need-slice-aggregate-read-pairs
+slice-aggregate-read-pairs c = search needs
 
-read-cache-requires : tie.Need-read-cache-requires
-read-cache-requires c κs = search needs
+read-pairs-requires : tie.Need-read-pairs-requires
+read-pairs-requires c κs = search needs
 
 slice-aggregate-read-words : tie.Need-slice-aggregate-read-words
 slice-aggregate-read-words c = search needs
@@ -22,7 +22,7 @@ array-share-prefix-cache c = search needs
 
 slice-aggregate-print-line : tie.Need-slice-aggregate-print-line
 slice-aggregate-print-line c =
-    let r = c .before .before .before .before .before .read-cache in sym (length-take-le _ (r .last .0) (omega (arith, r .kept .0)))
+    let r = c .before .before .before .before .before .read-pairs in sym (length-take-le _ (r .last .0) (omega (arith, r .kept .0)))
 
 array-share-prefix-words : tie.Need-array-share-prefix-words
 array-share-prefix-words c = search needs
@@ -41,8 +41,8 @@ pub replay-spec : {M : Type 1} → statement M
 replay-spec =
     tie.close
     (tie.spec
-    slice-aggregate-read-cache
-    read-cache-requires
+    slice-aggregate-read-pairs
+    read-pairs-requires
     slice-aggregate-read-words
     read-words-requires
     array-share-prefix-cache

@@ -2,14 +2,14 @@ use borrow.Author.Needs.{needs}
 use Prim.Native.Nat.{_≤_, _-_}
 use mathlib.Core.Path.{_≡_}
 use lib.ListN.{length}
-use Rattle.replaying.proofs.read_cache.Statement.{statement}
-use Rattle.replaying.proofs.read_cache.Tie as tie
+use Rattle.replaying.proofs.read_pairs.Statement.{statement}
+use Rattle.replaying.proofs.read_pairs.Tie as tie
 
 abbrev Inv-loop : tie.InvT-loop
-Inv-loop cache₀ count bytes i₀ cache i = (i ≤ count) × (length cache ≡ length cache₀)
+Inv-loop numbers₀ count bytes i₀ numbers i = (i ≤ count) × (length numbers ≡ length numbers₀)
 
 abbrev μ-loop : tie.MeasureT-loop
-μ-loop cache₀ count bytes i₀ cache i = count - i
+μ-loop numbers₀ count bytes i₀ numbers i = count - i
 
 slice-aggregate-read-front : tie.Need-slice-aggregate-read-front Inv-loop μ-loop
 slice-aggregate-read-front c = search needs
@@ -41,11 +41,11 @@ array-read-pair-2 c = search needs
 pair-requires : tie.Need-pair-requires Inv-loop μ-loop
 pair-requires c κs = search needs
 
-mul-cache : tie.Need-mul-cache Inv-loop μ-loop
-mul-cache c = search needs
+mul-numbers : tie.Need-mul-numbers Inv-loop μ-loop
+mul-numbers c = search needs
 
-slice-write-cache : tie.Need-slice-write-cache Inv-loop μ-loop
-slice-write-cache c = search needs
+slice-write-numbers : tie.Need-slice-write-numbers Inv-loop μ-loop
+slice-write-numbers c = search needs
 
 add-i : tie.Need-add-i Inv-loop μ-loop
 add-i c = search needs
@@ -62,8 +62,8 @@ same-length c = search needs
 returns : tie.Need-returns Inv-loop μ-loop
 returns c = search needs
 
-pub read-cache-spec : {M : Type 1} → statement M
-read-cache-spec =
+pub read-pairs-spec : {M : Type 1} → statement M
+read-pairs-spec =
     tie.close
     (tie.spec
     Inv-loop
@@ -78,8 +78,8 @@ read-cache-spec =
     add-pair
     array-read-pair-2
     pair-requires
-    mul-cache
-    slice-write-cache
+    mul-numbers
+    slice-write-numbers
     add-i
     loop-less
     loop-again
