@@ -2,10 +2,12 @@
 
 mod buffer;
 mod contexts;
+mod costs;
 mod drive;
 mod environments;
 mod lists;
 mod long_reports;
+mod made;
 mod program;
 mod reads;
 mod reports;
@@ -18,8 +20,8 @@ use std::process::ExitCode;
 use std::time::Instant;
 
 const USAGE: &str =
-    "usage: compare search|lists|contexts|reads|damaged|texts|reports|environments SEED COUNT \
-     [THREADS]\n\
+    "usage: compare search|lists|contexts|reads|damaged|costs|made|texts|reports|environments \
+     SEED COUNT [THREADS]\n\
      | long-reports SEED";
 
 /// A thread for each core of a small machine.
@@ -60,6 +62,8 @@ fn run() -> Result<bool, String> {
         "contexts" => contexts::compare(run),
         "reads" => reads::compare_sound(run),
         "damaged" => reads::compare_damaged(run),
+        "costs" => costs::compare(run),
+        "made" => made::compare(run),
         "texts" => texts::compare(run),
         "reports" => reports::compare(run),
         "environments" => environments::compare(run),

@@ -20,6 +20,9 @@ pub fn compare(run: Run) -> Result<bool, String> {
         let (request, kinds) = search_request(run.seed, index);
         let number = search_number(&request.asked());
         count_kinds(tally, &kinds, number);
+        if let Some(kinds) = kinds.block {
+            tally.kind("costs", kinds.costs.name());
+        }
         let same = match Costs::from_slice(&request.costs) {
             Ok(costs) => same_search(&request, &costs, number, tally),
             Err(refusal) => {
@@ -32,7 +35,8 @@ pub fn compare(run: Run) -> Result<bool, String> {
     })
 }
 
-fn count_kinds(tally: &mut Tally, kinds: &SearchKinds, number: u32) {
+/// All kinds but that of the costs.
+pub fn count_kinds(tally: &mut Tally, kinds: &SearchKinds, number: u32) {
     tally.kind("number", format!("{number:2}"));
     match kinds.block {
         Some(kinds) => {
@@ -40,7 +44,6 @@ fn count_kinds(tally: &mut Tally, kinds: &SearchKinds, number: u32) {
             tally.kind("layout", kinds.layout.name());
             tally.kind("fraction", kinds.fraction.name());
             tally.kind("lambda", kinds.lambda.name());
-            tally.kind("costs", kinds.costs.name());
         }
         None => tally.kind("block", "close"),
     }
@@ -64,13 +67,14 @@ fn same_refusal(request: &SearchRequest, refusal: Refusal, number: u32) -> Vec<S
     ]
 }
 
-fn same_search(
+/// Ours with `costs` beside the original with those of the request.
+pub fn same_search(
     request: &SearchRequest,
     costs: &Costs,
     number: u32,
     tally: &mut Tally,
 ) -> Vec<Same> {
-    let (due, original) = due(request, costs, number);
+    let (due, original) = due(request, number);
     let mut map = Buffer::new(request.map_room, CELL);
     let mut flags = Buffer::new(request.flag_room, CELL);
     let (map_room, flag_room) = (map.room(), flags.room());
@@ -100,8 +104,8 @@ fn block(request: &SearchRequest) -> Block<'_> {
 
 /// What is due, and the time of the original's search. Its costs are filled before, as they are
 /// once per process in the original program.
-fn due(request: &SearchRequest, costs: &Costs, number: u32) -> (Due, Duration) {
-    fill_costs(costs.as_table());
+fn due(request: &SearchRequest, number: u32) -> (Due, Duration) {
+    fill_costs(request.costs[..].try_into().expect("301 costs"));
     let start = Clock::start();
     let found = run_original(request, number);
     let time = start.elapsed();

@@ -65,12 +65,12 @@ pub struct TableKinds {
 pub fn table(seed: u64, index: u64) -> (Vec<u16>, TableKinds) {
     let random = &mut Random::beside(seed, index, Beside::Adapted);
     if random.one_in(2) {
-        let (numbers, rows) = sound_table(random);
+        let rows = random.pick(TableKind::ALL);
+        let numbers = table_of(random, rows);
         let damages = vec![];
         return (numbers, TableKinds { rows, damages });
     }
-    let rows = random.pick(&TableKind::ALL[1..]);
-    let mut numbers = table_of(random, rows);
+    let (mut numbers, rows) = sound_table(random);
     let mut damages = vec![random.pick(TableDamage::ALL)];
     if random.one_in(8) {
         damages.push(TableDamage::Length);
@@ -81,8 +81,17 @@ pub fn table(seed: u64, index: u64) -> (Vec<u16>, TableKinds) {
     (numbers, TableKinds { rows, damages })
 }
 
-pub fn sound_table(random: &mut Random) -> (Vec<u16>, TableKind) {
-    let kind = random.pick(TableKind::ALL);
+/// A table whose costs a search is lent; one in four is none.
+pub fn lent_table(seed: u64, index: u64) -> (Vec<u16>, TableKind) {
+    let random = &mut Random::beside(seed, index, Beside::Adapted);
+    if random.one_in(4) {
+        return (vec![], TableKind::None);
+    }
+    sound_table(random)
+}
+
+fn sound_table(random: &mut Random) -> (Vec<u16>, TableKind) {
+    let kind = random.pick(&TableKind::ALL[1..]);
     (table_of(random, kind), kind)
 }
 
