@@ -33,13 +33,13 @@ fn same_costs(numbers: &[u16], due: &Made) -> Vec<Same> {
     let (number, costs) = asked(numbers);
     let mut same = same_package(numbers, due);
     same.push(("archive's number", number == due.number));
-    same.push(("archive's costs", same_table(&costs, &*due.costs)));
+    same.push(("archive's costs", same_table(&costs, &due.costs)));
     same
 }
 
 /// Through the package, which shows no costs after a refusal.
 fn same_package(numbers: &[u16], due: &Made) -> Vec<Same> {
-    let same = |costs: &Costs| same_table(costs.as_table(), &*due.costs);
+    let same = |costs: &Costs| same_table(costs.as_table(), &due.costs);
     let mut all = match Costs::adapted(numbers) {
         Ok(costs) => vec![("number", due.number == 0), ("costs", same(&costs))],
         Err(refusal) => vec![("number", refusal.number() == due.number)],
