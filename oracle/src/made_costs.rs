@@ -51,7 +51,8 @@ pub fn meets(p: u16, c: u32) -> bool {
 }
 
 fn at_most_2_240(product: &Big) -> bool {
-    product.compared(&Big::one().times_power(2, 240)) != Ordering::Greater
+    static BOUND: LazyLock<Big> = LazyLock::new(|| Big::one().times_power(2, 240));
+    product.compared(&BOUND) != Ordering::Greater
 }
 
 /// The largest c with 2^c · p^16 ≤ 2^240, by trying one after the other. p is from 1 to 32,768, so
