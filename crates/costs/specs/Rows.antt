@@ -1,11 +1,11 @@
 -- Document 02, L5: the rows of a table of 260 numbers, the default table, and which tables are accepted.
-use Prim.Native.Nat.{ℕ, _+_, _-_, _*_, _/_, _%_}
+use Prim.Native.Nat.{ℕ, _+_, _-_, _*_, _/_}
 use mathlib.Core.Bool.{Bool, cond, _&&_}
 use mathlib.Core.List.{List, [], _∷_, _++_}
 use lib.Dec.{ltb, leb, eqb}
 use lib.ListN.{length, getD, take, drop}
 use Rattle.lists.specs.Counted.{upTo, allBelow}
-use Rattle.tables.specs.Icdf.{sizeTable, rowTable, colorTable}
+use Rattle.tables.specs.Icdf.{sizeTable, rowTable, colorRows}
 use Rattle.costs.specs.declared.Row.{Row}
 
 abbrev row : ℕ → ℕ → ℕ → Row
@@ -26,8 +26,7 @@ part table at len = take len (drop at table)
 
 -- default rows: mode 2723, then the source's three tables
 unfoldable pub defaults : List ℕ
-defaults =
-    2723 ∷ (sizeTable ++ (upTo (λ c. getD rowTable c []) 4 ++ upTo (λ b. getD (getD colorTable (b / 5) []) (b % 5) []) 35))
+defaults = 2723 ∷ (sizeTable ++ (upTo (λ c. getD rowTable c []) 4 ++ colorRows))
 
 -- what stands before symbol s of a row: 32,768 before the first
 abbrev pub before : List ℕ → ℕ → ℕ

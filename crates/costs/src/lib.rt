@@ -4,7 +4,9 @@ ghost use mathlib.Core.Logic.{_⊎_};
 ghost use Prim.Native.Nat.{_+_, _≤_, _<_};
 ghost use lib.ListN.{length, getD};
 ghost use Rattle.costs.specs.Cost.{costOf, sixteenths};
+ghost use Rattle.costs.specs.Thresholds.{thresholds};
 ghost use Rattle.lists.specs.Counted.{each};
+ghost use Rattle.tables.specs.Icdf.{colorRows};
 ghost use Rattle.costs.specs.Rows.{before, chanceOf, rowAt, part, defaults, numberOk, rowOk, rowsOk};
 ghost use Rattle.costs.specs.Costs.{costIn, tableCosts, tableOf, costsNumber, MakesCosts};
 
@@ -266,21 +268,29 @@ pub struct Row {
     pub room: usize,
 }
 
-// The cost of probability p in sixteenths of a bit: the last c whose threshold is at least p.
+// The last c whose threshold is at least p. Thresholds never rise, so it is the number of those behind the first that are;
+// counting takes eight of them at once, where halving would jump by p.
+fn last_met(limits: &[u16], p: u16) -> u16
+    requires { ⌜ now limits ≡ thresholds ⌝ }
+    ensures { λ r. ⌜ r ≡ costOf p ⌝ }
+{
+    let mut c: u16 = 0;
+    let mut i: usize = 1;
+    while i < 241 {
+        if p <= limits[i] {
+            c += 1;
+        }
+        i += 1;
+    }
+    c
+}
+
+// The cost of probability p in sixteenths of a bit.
 pub fn cost_of(p: u16) -> u16
     ensures { λ r. ⌜ r ≡ costOf p ⌝ }
 {
-    let mut low: usize = 0;
-    let mut high: usize = 241;
-    while low + 1 < high {
-        let mid = (low + high) / 2;
-        if p <= THRESHOLDS[mid] {
-            low = mid;
-        } else {
-            high = mid;
-        }
-    }
-    low as u16
+    let limits = THRESHOLDS;
+    last_met(&limits, p)
 }
 
 // c / 16
@@ -320,22 +330,24 @@ fn chance(row: &[u16], s: usize) -> u16
 }
 
 // The cost of symbol s of a row; unused ones cost 0.
-fn cost_in(row: &[u16], s: usize) -> f32
+fn cost_in(limits: &[u16], row: &[u16], s: usize) -> f32
+    requires { ⌜ now limits ≡ thresholds ⌝ }
     ensures { λ r. ⌜ r ≡ costIn (now (row .entry)) s ⌝ }
 {
     if row.len() < s {
         return 0.0;
     }
-    sixteenth(cost_of(chance(row, s)))
+    sixteenth(last_met(limits, chance(row, s)))
 }
 
 // The costs of a row's symbols, and zeros for the unused ones behind them.
-fn put_costs(row: &[u16], costs: &mut [f32])
+fn put_costs(limits: &[u16], row: &[u16], costs: &mut [f32])
+    requires { ⌜ now limits ≡ thresholds ⌝ }
     ensures { λ r. ⌜ now (costs .exit) ≡ each (costIn (now (row .entry))) (length (now (costs .entry))) ⌝ }
 {
     let mut s: usize = 0;
     while s < costs.len() {
-        costs[s] = cost_in(row, s);
+        costs[s] = cost_in(limits, row, s);
         s += 1;
     }
 }
@@ -386,11 +398,13 @@ fn row_of<'a>(adapted: &'a [u16], default: &'a [u16], at: usize, len: usize) -> 
     &adapted[at..end]
 }
 
-// All the costs: each row has one more of them than it has places.
+// All the costs: each row has one more of them than it has places. The thresholds are copied once and lent down: each
+// reading of a constant table copies it.
 fn all_costs<'a>(adapted: &'a [u16], default: &'a [u16]) -> [f32; 301]
     requires { ⌜ (length (now default) ≡ 260) × ((length (now adapted) ≡ 0) ⊎ (length (now adapted) ≡ 260)) ⌝ }
     ensures { λ r. ⌜ r ≡ tableCosts (tableOf (now (adapted .entry)) (now (default .entry))) ⌝ }
 {
+    let limits = THRESHOLDS;
     let mut costs = [0.0f32; 301];
     let mut r: usize = 0;
     while r < 41 {
@@ -398,6 +412,7 @@ fn all_costs<'a>(adapted: &'a [u16], default: &'a [u16]) -> [f32; 301]
         let from = row.at + r;
         let to = from + row.room + 1;
         put_costs(
+            &limits,
             row_of(adapted, default, row.at, row.used),
             &mut costs[from..to],
         );
@@ -406,9 +421,9 @@ fn all_costs<'a>(adapted: &'a [u16], default: &'a [u16]) -> [f32; 301]
     costs
 }
 
-// Number k of the default table.
-fn default_at(k: usize) -> u16
-    requires { ⌜ k < 260 ⌝ }
+// Number k of the default table: mode 2723, then the source's three tables.
+fn default_at(colors: &[u16], k: usize) -> u16
+    requires { ⌜ (now colors ≡ colorRows) × (k < 260) ⌝ }
     ensures { λ r. ⌜ r ≡ getD defaults k 0 ⌝ }
 {
     if k < 1 {
@@ -420,18 +435,18 @@ fn default_at(k: usize) -> u16
     if k < 15 {
         return tables::row_icdf((k - 7) / 2, (k - 7) % 2);
     }
-    let j = k - 15;
-    tables::color_icdf(j / 35 + 2, j / 7 % 5, j % 7)
+    colors[k - 15]
 }
 
 // The default table, laid out as an adapted one.
 fn default_table() -> [u16; 260]
     ensures { λ r. ⌜ r ≡ defaults ⌝ }
 {
+    let colors = tables::color_rows();
     let mut table = [0u16; 260];
     let mut k: usize = 0;
     while k < 260 {
-        table[k] = default_at(k);
+        table[k] = default_at(&colors, k);
         k += 1;
     }
     table

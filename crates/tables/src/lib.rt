@@ -1,6 +1,6 @@
 // The default tables of the palette symbols, with readers that answer for all arguments. The numbers are the Rust's.
 ghost use mathlib.Core.Path.{_≡_};
-ghost use Rattle.tables.specs.Icdf.{sizeIcdf, rowIcdf, colorIcdf};
+ghost use Rattle.tables.specs.Icdf.{sizeIcdf, rowIcdf, colorRows};
 
 const Y_SIZE_ICDF: [u16; 6] = [23989, 17673, 11991, 7865, 4845, 2365];
 
@@ -80,21 +80,17 @@ pub fn row_icdf(context: usize, k: usize) -> u16
     ROW_ICDF[context][k]
 }
 
-// Number k of the row of n colours and a context; 0 where there is none.
-pub fn color_icdf(n: usize, context: usize, k: usize) -> u16
-    ensures { λ r. ⌜ r ≡ colorIcdf n context k ⌝ }
+// All rows of COLOR_ICDF, one behind the other: by n, then by context. Each reading of a constant table copies it, so a
+// caller that needs them all takes them at once.
+pub fn color_rows() -> [u16; 245]
+    ensures { λ r. ⌜ r ≡ colorRows ⌝ }
 {
-    if n < 2 {
-        return 0;
+    let table = COLOR_ICDF;
+    let mut rows = [0u16; 245];
+    let mut k: usize = 0;
+    while k < 245 {
+        rows[k] = table[k / 35][k / 7 % 5][k % 7];
+        k += 1;
     }
-    if 8 < n {
-        return 0;
-    }
-    if 5 <= context {
-        return 0;
-    }
-    if 7 <= k {
-        return 0;
-    }
-    COLOR_ICDF[n - 2][context][k]
+    rows
 }

@@ -11,16 +11,16 @@ use Rattle.costs.proofs.put_costs.Statement.{statement}
 use Rattle.costs.proofs.put_costs.Tie as tie
 
 abbrev Inv-loop : tie.InvT-loop
-Inv-loop row costs₀ s₀ costs s = (length costs ≡ length costs₀) × Filled nan (each (costIn row) (length costs₀)) costs s
+Inv-loop limits row costs₀ s₀ costs s = (length costs ≡ length costs₀) × Filled nan (each (costIn row) (length costs₀)) costs s
 
 abbrev μ-loop : tie.MeasureT-loop
-μ-loop row costs₀ s₀ costs s = length costs₀ - s
+μ-loop limits row costs₀ s₀ costs s = length costs₀ - s
 
 loop-holds : tie.Need-loop-holds Inv-loop μ-loop
 loop-holds c = (refl, starts nan _ _ (sym (length-upTo _ _)))
 
 cost-in-requires : tie.Need-cost-in-requires Inv-loop μ-loop
-cost-in-requires c κs = tt
+cost-in-requires c κs = c .before .before .before .before .before .pre
 
 mul-costs : tie.Need-mul-costs Inv-loop μ-loop
 mul-costs c = omega (arith, c .before .before .loop .inv .0)
@@ -41,7 +41,7 @@ loop-again c =
     let k = l .inv .0 in
     let n = l .inv .1 .count in
     let x = c .cost-in .result in
-    let row = c .before .before .before .before .before .args .row .now in (
+    let row = c .before .before .before .before .before .before .args .row .now in (
       length-set (l .costs) (l .s) x ∙ k,
       more nan _ (l .costs) (l .s) x (l .inv .1) (omega arith) (c .cost-in .ensures ∙ sym (each-at nan (costIn row) _ (l .s) (omega arith))),
     )
