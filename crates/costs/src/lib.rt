@@ -269,7 +269,7 @@ pub struct Row {
 }
 
 // The last c whose threshold is at least p. Thresholds never rise, so it is the number of those behind the first that are;
-// counting takes eight of them at once, where halving would jump by p.
+// counting takes eight of them at once, where halving jumps by p and is mispredicted.
 fn last_met(limits: &[u16], p: u16) -> u16
     requires { ⌜ now limits ≡ thresholds ⌝ }
     ensures { λ r. ⌜ r ≡ costOf p ⌝ }
@@ -463,7 +463,7 @@ fn number_ok(row: &[u16], used: usize, s: usize) -> bool
     x == 0
 }
 
-// Whether a row of which the first numbers are used is accepted.
+// Whether a row is accepted whose first `used` numbers are in use.
 fn row_ok(row: &[u16], used: usize) -> bool
     ensures { λ r. ⌜ r ≡ rowOk used (now (row .entry)) ⌝ }
 {

@@ -6,6 +6,7 @@ mod rounds;
 mod table;
 
 use batch::{due, read_ours, search_ours, Prices, Room};
+use palette_oracle::generate::adapted::lent_table;
 use palette_oracle::generate::costs::logarithms;
 use palette_oracle::generate::sheets::{corners, sheets, Cut, Sheet};
 use palette_station::{list, Costs, Palette};
@@ -117,6 +118,7 @@ fn measure(sheet: &Sheet, side: usize, lambda: f32, costs: &Costs, options: &Opt
 /// differ, or whose list gives another palette back, is not timed.
 fn looked_at(block: Cut, prices: &Prices, outcome: &mut Outcome) -> Option<Timed> {
     let due = due(&block, prices);
+    let place: usize = outcome.numbers.values().sum();
     *outcome.numbers.entry(due.number).or_default() += 1;
     let mut room = Room::of(&block);
     let answer = search_ours(&block, prices, &mut room);
@@ -139,6 +141,7 @@ fn looked_at(block: Cut, prices: &Prices, outcome: &mut Outcome) -> Option<Timed
         room,
         palette,
         words,
+        rows: lent_table(0, place as u64).0,
     })
 }
 

@@ -3,7 +3,8 @@
 use crate::batch::{read_ours, search_original, search_ours, Prices, Room};
 use palette_compare::clock::Clock;
 use palette_oracle::generate::sheets::Cut;
-use palette_station::{list_into, Palette, MAX_WORDS};
+use palette_station::{list_into, Costs, Palette, MAX_WORDS};
+use std::hint::black_box;
 use std::time::Duration;
 
 /// Times of one or more batches. Blocks with a palette and refused ones are timed apart, since
@@ -14,6 +15,7 @@ pub struct Times {
     pub original: Duration,
     pub listing: Duration,
     pub reading: Duration,
+    pub costing: Duration,
     pub ours_refused: Duration,
     pub original_refused: Duration,
 }
@@ -38,6 +40,7 @@ impl Times {
         self.original = join(self.original, other.original);
         self.listing = join(self.listing, other.listing);
         self.reading = join(self.reading, other.reading);
+        self.costing = join(self.costing, other.costing);
         self.ours_refused = join(self.ours_refused, other.ours_refused);
         self.original_refused = join(self.original_refused, other.original_refused);
     }
@@ -50,6 +53,8 @@ pub struct Timed {
     pub palette: Option<Palette>,
     /// The palette's list; empty without one.
     pub words: Vec<u32>,
+    /// A tile's adapted rows.
+    pub rows: Vec<u16>,
 }
 
 /// The least time of each round over the passes. A round goes once through the blocks of the
@@ -79,6 +84,7 @@ fn one_pass(batch: &mut [Timed], prices: &Prices, ours_first: bool) -> Times {
             (times.ours, times.original) = (ours, original);
             times.listing = round_of_listing(batch);
             times.reading = round_of_reading(batch);
+            times.costing = round_of_costs(batch);
         } else {
             (times.ours_refused, times.original_refused) = (ours, original);
         }
@@ -127,6 +133,16 @@ fn round_of_reading(batch: &mut [Timed]) -> Duration {
     for timed in chosen(batch, true) {
         let answer = read_ours(&timed.block, &timed.words, &mut timed.room);
         assert!(answer.is_ok(), "a list that was written is read");
+    }
+    start.elapsed()
+}
+
+/// Makes all 301 costs once for each block with a palette.
+fn round_of_costs(batch: &mut [Timed]) -> Duration {
+    let start = Clock::start();
+    for timed in chosen(batch, true) {
+        let costs = black_box(Costs::adapted(&timed.rows));
+        assert!(costs.is_ok(), "the rows are sound");
     }
     start.elapsed()
 }

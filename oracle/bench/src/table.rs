@@ -31,15 +31,17 @@ const HEAD: [(&str, usize); COLUMNS] = [
     ("read/list", 10),
     ("read/ours", 10),
     ("read/orig", 10),
+    ("costs/ours", 11),
 ];
 
-const COLUMNS: usize = 16;
+const COLUMNS: usize = 17;
 
 pub fn print_head() {
     println!("found, 8, 9, 10: blocks with that answer");
     println!("search: our search / the original's, on the whole sheet, on blocks with a palette and on those without");
     println!("list/ours, list/orig: our listing / our search, / the original's search");
     println!("read/list, read/ours, read/orig: our reading / our listing, / our search, / the original's search");
+    println!("costs/ours: our making of the 301 costs, once a block / our search");
     print_fields(HEAD.map(|(name, _)| name.to_string()));
 }
 
@@ -73,6 +75,7 @@ pub fn print_line(name: &str, side: usize, lambda: f32, outcome: &Outcome) {
         ratio(found, times.reading, times.listing),
         ratio(found, times.reading, times.ours),
         ratio(found, times.reading, times.original),
+        ratio(found, times.costing, times.ours),
     ]);
 }
 
