@@ -13,12 +13,12 @@
  *    to nearest, neither flush-to-zero nor denormals-are-zero, exceptions masked.
  *
  * The last matters for palette_search alone. palette_pred makes floats of whole numbers below
- * 4096 and palette_costs of sixteenths up to 15, which is exact in every environment, and the
- * others have none. A program starts in the
- * default environment unless it is linked with -ffast-math (or -Ofast, or
- * -funsafe-math-optimizations): that sets flush-to-zero and denormals-are-zero, and the search may
- * then find another palette. fesetround and feenableexcept leave it too, and so may a library.
- * Whoever cannot rule that out calls palette_search_default_env.
+ * 4096, and palette_costs of sixteenths from 0 to 15, which is exact in every environment; the
+ * others have none. A program starts in the default environment unless it is linked with
+ * -ffast-math (or -Ofast, or -funsafe-math-optimizations): that sets flush-to-zero and
+ * denormals-are-zero, and the search may then find another palette. fesetround and feenableexcept
+ * leave it too, and so may a library. Whoever cannot rule that out calls
+ * palette_search_default_env.
  *
  * A function that returns uint32_t returns the documents' number: 0 if accepted, else the first
  * of its tests that fails. After a refusal every lent buffer (map, flags, words, values) is as it
@@ -76,8 +76,8 @@ extern "C" {
 #define PALETTE_WORD 21         /* kind or first field not the one due, or second beyond range */
 #define PALETTE_WORDS_LEFT 22   /* words left over behind the list */
 #define PALETTE_NOT_LISTED 23   /* reads to its end, but the listing would not write it */
-#define PALETTE_ADAPTED_LENGTH 24 /* adapted table of a length other than 0 or 260 */
-#define PALETTE_ADAPTED_ROWS 25   /* its rows not strictly falling, or unused places not 0 */
+#define PALETTE_ADAPTED_LENGTH 24  /* adapted table of a length other than 0 or 260 */
+#define PALETTE_ADAPTED_ROWS 25    /* its rows do not fall as said below, or unused places not 0 */
 
 /*
  * Whether a block of these sides, in units of four samples, may have a palette: each at most 16,
@@ -96,15 +96,19 @@ uint32_t palette_context(const uint8_t *map, size_t cells, size_t stride, size_t
                          size_t n, uint32_t context[9]);
 
 /*
- * Makes the 301 costs that palette_search takes, equal on every machine to the last bit. `adapted`
- * holds a tile's rows, 260 numbers, each falling from above over 32768: mode 1, size 6, row 4 x 2
- * (line context), colour 7 x 5 x 7 (n from 2, context; n - 1 numbers, then zeros). With `numbers`
- * 0 none are lent, and the default rows serve. A symbol of probability p / 32768 costs c / 16, with
- * c the largest whole number where 2^c p^16 <= 2^240; places of ranks that n colours do not have
- * cost 0.
+ * Makes the 301 costs that palette_search takes, from a tile's adapted rows: `numbers` of them in
+ * `adapted`, which is 260, or 0 for the default rows (then, too, the pointer is not NULL).
  *
- * Returns 0, or 24, 25, tested in this order. Writes `costs`, 301 from 0 to 15, in the order that
- * palette_search takes.
+ * The rows stand one behind the other: mode 1, size 6, row 4 x 2 (line context), colour 7 x 5 x 7
+ * (n from 2, context; n - 1 numbers, then zeros). A row has a number fewer than it has symbols, and
+ * falls strictly from at most 32767 to at least 1: a symbol's probability out of 32768 is the
+ * number before it less its own, where 32768 stands before the row and 0 after it. Probability p
+ * costs c / 16, with c the largest whole number where 2^c p^16 <= 2^240. Places of ranks that n
+ * colours do not have cost 0. All of this is done in whole numbers: the costs are the same on
+ * every machine.
+ *
+ * Returns 0, or 24, 25, tested in this order. Writes `costs`, each within 0..15, in the order that
+ * palette_search takes; it never refuses them by 5.
  */
 uint32_t palette_costs(const uint16_t *adapted, size_t numbers, float costs[301]);
 

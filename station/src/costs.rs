@@ -34,41 +34,45 @@ const COLOR: usize = 21;
 pub struct Costs([f32; COSTS]);
 
 impl Costs {
-    /// The costs from a tile's adapted rows: document 02's rule in sixteenths of a bit, so that
-    /// they are equal on every machine to the last bit.
+    /// The costs from a tile's adapted rows. They are sixteenths of a bit, worked out in whole
+    /// numbers by document 02's rule, and so the same on every machine.
     ///
-    /// The rows stand one behind the other, [`ADAPTED`](crate::ADAPTED) numbers in all, each
-    /// falling from above over 32,768: mode 1, size 6, row 4 × 2 (by line context), colour
-    /// 7 × 5 × 7 (by n from 2, then by context; n - 1 numbers, then zeros). A symbol of
-    /// probability p / 32,768 costs c / 16, where c is the largest whole number with
-    /// 2^c · p^16 ≤ 2^240. Places of ranks that n colours do not have cost 0.
+    /// The rows stand one behind the other, [`ADAPTED`](crate::ADAPTED) numbers in all: mode 1,
+    /// size 6, row 4 × 2 (for each line context), colour 7 × 5 × 7 (for each n from 2 to 8, for
+    /// each context; n - 1 numbers, then zeros). A row has a number fewer than it has symbols, and
+    /// falls: a symbol's probability out of 32,768 is the number before it less its own, where
+    /// 32,768 stands before the row and 0 after it. Probability p costs c / 16, with c the largest
+    /// whole number where 2^c · p^16 ≤ 2^240; so every cost is within 0..15. Places of ranks that
+    /// n colours do not have cost 0.
     ///
     /// No numbers at all lend no rows: that gives the default costs. Any other length is refused
-    /// by 24, rows that do not fall or places behind them that are not 0 by 25.
+    /// by 24. Rows that do not fall strictly from at most 32,767 to at least 1, or are not followed
+    /// by zeros, are refused by 25.
     ///
     /// ```
     /// use palette_station::{Costs, Refusal, ADAPTED};
     ///
-    /// // Every symbol of a row as likely as the others, but for what does not divide.
-    /// let mut rows = [0; ADAPTED];
-    /// let even = |row: &mut [u16]| {
-    ///     let symbols = row.len() as u16 + 1;
-    ///     (1..).zip(row).for_each(|(s, number)| *number = 32_768 / symbols * (symbols - s));
-    /// };
-    /// even(&mut rows[..1]);
-    /// even(&mut rows[1..7]);
-    /// rows[7..15].chunks_mut(2).for_each(even);
-    /// for (place, row) in rows[15..].chunks_mut(7).enumerate() {
-    ///     even(&mut row[..place / 5 + 1]);
+    /// // Each symbol but a row's last has an eighth of the whole.
+    /// let row = |symbols: u16| (1..symbols).map(|symbol| 32_768 - 4_096 * symbol);
+    /// let mut rows = Vec::with_capacity(ADAPTED);
+    /// rows.extend(row(2)); // mode
+    /// rows.extend(row(7)); // size
+    /// for _line_context in 0..4 {
+    ///     rows.extend(row(3));
+    /// }
+    /// for n in 2..=8 {
+    ///     for _context in 0..5 {
+    ///         rows.extend(row(n).chain(std::iter::repeat(0)).take(7));
+    ///     }
     /// }
     /// let costs = Costs::adapted(&rows)?;
-    /// assert_eq!(costs.mode(true), 1.0);
-    /// assert_eq!(costs.color(4, 2, 3), Some(2.0));
-    /// assert_eq!(costs.color(8, 0, 7), Some(3.0));
+    /// assert_eq!(costs.color(8, 4, 7), Some(3.0)); // an eighth
+    /// assert_eq!(costs.row(0, 2), Some(0.375)); // six eighths, 0.415 bits: six sixteenths
     ///
-    /// rows[0] = 32_768;
+    /// rows[1] = rows[2];
     /// assert_eq!(Costs::adapted(&rows), Err(Refusal::ADAPTED_ROWS));
-    /// assert_eq!(Costs::adapted(&rows[1..]), Err(Refusal::ADAPTED_LENGTH));
+    /// rows.pop();
+    /// assert_eq!(Costs::adapted(&rows), Err(Refusal::ADAPTED_LENGTH));
     /// # Ok::<(), Refusal>(())
     /// ```
     pub fn adapted(rows: &[u16]) -> Result<Costs, Refusal> {
@@ -167,7 +171,9 @@ impl Costs {
     }
 }
 
-/// The costs from the default rows, which are maroontree's; see [`Costs::adapted`] for the rule.
+/// The costs from the default rows, the source's with mode 2723; [`Costs::adapted`] has the rule.
+///
+/// They are made at each call, in some ten microseconds: for many blocks make them once.
 ///
 /// ```
 /// use palette_station::Costs;
@@ -179,6 +185,6 @@ impl Costs {
 /// ```
 impl Default for Costs {
     fn default() -> Costs {
-        Costs::adapted(&[]).expect("none lent is never refused")
+        Costs::adapted(&[]).expect("no rows are never refused")
     }
 }

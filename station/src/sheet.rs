@@ -55,7 +55,7 @@
 //! levels 0                   0: as scanned
 //! lambda 42700000            the bits of the f32 as 8 hex digits: 60
 //! costs
-//! 3e002aa7 4065b27c ..       43 lines of 7, written as lambda is
+//! 3e000000 40640000 ..       43 lines of 7, written as lambda is
 //!      277                   a block with a palette: its list as the listing program prints it,
 //!        3       0       0   the number of calls, then kind, first and second of each
 //!        1       8      20

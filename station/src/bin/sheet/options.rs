@@ -20,7 +20,7 @@ standard input. Without FILE a sample drawing is made and searched.
   --lambda X      weight of the bits, 0 to 1048576 (60 at 8 bits, four times as
                   much for each bit more)
   --costs FILE    301 costs, each 0 to 32, separated by white space
-                  (computed from the tables)
+                  (made from the default rows, in sixteenths of a bit)
   --threads N     1 to 256 (1); the output does not depend on it
   --lists FILE    write what the sheet is known by: sides, depth and options,
                   then per block its call list, or its number with its level or
