@@ -5,6 +5,7 @@
 
 mod common;
 
+use common::rows::{costs_of, drawn_table, DEFAULT_TABLE};
 use common::{block, halves, without_estimate, Drawn, Random};
 use palette_station::{
     block_allowed, context, list, pred, read, search, Block, Costs, Listing, Palette, Refusal,
@@ -264,6 +265,27 @@ fn lists_read_back() {
         for (name, mode) in MODES {
             let back = under(mode, || read(width, height, bd, &words, &cache));
             assert_eq!(bitwise(back), due, "{name}");
+        }
+    }
+}
+
+/// The bits of the costs made from a table.
+fn made(table: &[u16], mode: u32) -> Result<[u32; 301], Refusal> {
+    let costs = under(mode, || Costs::adapted(table))?;
+    Ok(costs.as_table().map(f32::to_bits))
+}
+
+/// The C program asks the archive itself in such environments.
+#[test]
+fn costs() {
+    let mut random = Random(10);
+    let drawn = (0..100).map(|_| drawn_table(&mut random));
+    for table in drawn.chain([DEFAULT_TABLE.to_vec()]) {
+        let due: Vec<u32> = costs_of(&table).into_iter().map(f32::to_bits).collect();
+        for (name, mode) in MODES {
+            assert_eq!(made(&table, mode).unwrap()[..], due, "{name}");
+            assert_eq!(made(&[], mode), made(&DEFAULT_TABLE, DEFAULT), "{name}");
+            assert_eq!(made(&table[1..], mode), Err(Refusal::ADAPTED_LENGTH));
         }
     }
 }

@@ -209,6 +209,7 @@ fn limits_are_those_of_the_package() {
         ("PALETTE_MAX_CACHE", station::MAX_CACHE),
         ("PALETTE_MAX_WORDS", station::MAX_WORDS),
         ("PALETTE_COSTS", station::COSTS),
+        ("PALETTE_ADAPTED", station::ADAPTED),
     ];
     for (name, limit) in limits {
         assert_eq!(defined(name), Some(limit), "{name}");
@@ -241,6 +242,8 @@ fn numbers_are_those_of_the_package() {
         ("PALETTE_WORD", station::Refusal::WORD),
         ("PALETTE_WORDS_LEFT", station::Refusal::WORDS_LEFT),
         ("PALETTE_NOT_LISTED", station::Refusal::NOT_LISTED),
+        ("PALETTE_ADAPTED_LENGTH", station::Refusal::ADAPTED_LENGTH),
+        ("PALETTE_ADAPTED_ROWS", station::Refusal::ADAPTED_ROWS),
     ];
     for (name, refusal) in numbers {
         assert_eq!(defined(name), Some(refusal.number() as usize), "{name}");

@@ -98,16 +98,28 @@ fn reading_1_2_7_13_and_20_to_23() {
     assert_eq!(read_number(&[16], |words| words.insert(1, 0x0101_0000)), 23);
 }
 
+#[test]
+fn costs_24_and_25() {
+    let number = |table: &[u16]| Costs::adapted(table).map_or_else(Refusal::number, |_| 0);
+    assert_eq!(number(&[]), 0);
+    assert_eq!(number(&[0; 259]), 24);
+    assert_eq!(number(&[0; 260]), 25);
+}
+
 /// In document 02's words. Two meanings exchanged would still be of their own each.
 #[test]
-fn meanings_of_20_to_23() {
-    let shown = [20, 21, 22, 23].map(|number| Refusal::from_number(number).unwrap().to_string());
+fn meanings_of_20_to_25() {
+    let shown = |number| Refusal::from_number(number).unwrap().to_string();
+    let shown = [20, 21, 22, 23, 24, 25].map(shown);
     let due = [
         "refused by 20: the list ends where a word is due",
         "refused by 21: a word whose kind or first field is not the one due, \
          or whose second is beyond its range",
         "refused by 22: words left over behind the list",
         "refused by 23: a list that reads to its end but that the listing would not write",
+        "refused by 24: an adapted table of a length other than 0 or 260",
+        "refused by 25: an adapted table whose used rows do not fall strictly from at most 32,767 \
+         to at least 1, or whose unused places are not 0",
     ];
     assert_eq!(shown, due);
 }
@@ -139,8 +151,8 @@ fn block_count_19() {
 
 #[test]
 fn every_number_has_a_meaning_of_its_own() {
-    let refusals: Vec<Refusal> = (1..=23).filter_map(Refusal::from_number).collect();
-    assert_eq!(refusals.len(), 23);
+    let refusals: Vec<Refusal> = (1..=25).filter_map(Refusal::from_number).collect();
+    assert_eq!(refusals.len(), 25);
     for (place, refusal) in refusals.iter().enumerate() {
         assert_eq!(refusal.number() as usize, place + 1);
         let shown = format!("refused by {}: {}", place + 1, refusal.meaning());
@@ -155,5 +167,5 @@ fn every_number_has_a_meaning_of_its_own() {
         );
     }
     assert_eq!(Refusal::from_number(0), None);
-    assert_eq!(Refusal::from_number(24), None);
+    assert_eq!(Refusal::from_number(26), None);
 }

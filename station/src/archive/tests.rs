@@ -143,3 +143,32 @@ fn a_refused_context_is_all_zero() {
     assert_eq!(super::context(&[1, 1, 1], 2, 0, 0, 2, &mut answer), 18);
     assert_eq!(answer, [0; 9]);
 }
+
+/// A table whose rows all begin at 7 and fall by 1.
+fn falling() -> [u16; 260] {
+    let mut table = [0; 260];
+    let (head, colors) = table.split_at_mut(15);
+    head.copy_from_slice(&[7, 7, 6, 5, 4, 3, 2, 7, 6, 7, 6, 7, 6, 7, 6]);
+    for (place, row) in colors.chunks_mut(7).enumerate() {
+        let used = &mut row[..place / 5 + 1];
+        used.copy_from_slice(&[7, 6, 5, 4, 3, 2, 1][..used.len()]);
+    }
+    table
+}
+
+#[test]
+fn refused_costs_are_all_zero() {
+    let table = falling();
+    let mut costs = [-7.5; 301];
+    assert_eq!(super::costs(&table, &mut costs), 0);
+    // The second of two symbols has 7 of 32,768.
+    assert_eq!(costs[..2], [0.0, 12.1875]);
+    assert!(!costs.contains(&-7.5));
+    let mut damaged = table;
+    damaged[259] = 2;
+    for (due, refused) in [(24, &table[1..]), (25, &damaged[..])] {
+        costs.fill(-7.5);
+        assert_eq!(super::costs(refused, &mut costs), due);
+        assert_eq!(costs.map(f32::to_bits), [0; 301], "number {due}");
+    }
+}

@@ -25,9 +25,10 @@ static bool filled(const void *buffer, size_t bytes) {
     return true;
 }
 
-static bool zeros(const uint32_t *words, size_t count) {
-    while (count-- > 0) {
-        if (*words++ != 0) return false;
+static bool zeros(const void *buffer, size_t bytes) {
+    const unsigned char *byte = buffer;
+    while (bytes-- > 0) {
+        if (*byte++ != 0) return false;
     }
     return true;
 }
@@ -48,7 +49,59 @@ static void context(void) {
     CHECK(palette_context(map, 4, 2, 1, 1, 4, answer) == PALETTE_ACCEPTED);
     CHECK(memcmp(answer, due, sizeof due) == 0);
     CHECK(palette_context(map, 4, 2, 0, 0, 4, answer) == PALETTE_NO_CONTEXT);
-    CHECK(zeros(answer, 9));
+    CHECK(zeros(answer, sizeof answer));
+}
+
+/* Each row begins at 28672 and falls by 4096, so each symbol but its last costs 3. */
+static void even_rows(uint16_t rows[PALETTE_ADAPTED]) {
+    size_t at = 0;
+    memset(rows, 0, PALETTE_ADAPTED * sizeof *rows);
+    for (int row = 0; row < 41; row++) {
+        const int used = row == 0 ? 1 : row == 1 ? 6 : row < 6 ? 2 : (row - 6) / 5 + 1;
+        for (int i = 0; i < used; i++) rows[at + i] = (uint16_t)(28672 - 4096 * i);
+        at += row < 6 ? used : 7;
+    }
+}
+
+/* The places before and behind show a write that goes too far. */
+static void costs(void) {
+    uint16_t rows[PALETTE_ADAPTED];
+    float room[PALETTE_COSTS + 2], *made = room + 1;
+    even_rows(rows);
+    fill(room, sizeof room);
+    CHECK(palette_costs(rows, 259, made) == PALETTE_ADAPTED_LENGTH);
+    CHECK(zeros(made, PALETTE_COSTS * sizeof *made));
+    CHECK(palette_costs(rows, PALETTE_ADAPTED, made) == PALETTE_ACCEPTED);
+    CHECK(made[0] == 3 && made[1] == 0.1875f && made[2] == 3 && made[20] == 0.375f);
+    CHECK(made[21] == 3 && made[22] == 0.1875f && made[23] == 0 && made[300] == 3);
+    CHECK(palette_costs(rows, 0, made) == PALETTE_ACCEPTED);
+    CHECK(made[0] == 0.125f && made[1] == 3.5625f && made[29] == 1 && made[30] == 1);
+    rows[259] = 0;
+    CHECK(palette_costs(rows, PALETTE_ADAPTED, made) == PALETTE_ADAPTED_ROWS);
+    CHECK(zeros(made, PALETTE_COSTS * sizeof *made));
+    CHECK(filled(room, sizeof *room) && filled(made + PALETTE_COSTS, sizeof *room));
+}
+
+/*
+ * Document 01's block with the default costs, then with those of the even rows. Lambda 0 leaves its
+ * map as it is; the estimate is 51 with costs of 0, and 3 times what it takes of the costs more:
+ * mode palette less none, size 2, the flag, rank 0 at 14 cells and rank 1 at one.
+ */
+static void search_with_made_costs(void) {
+    const float due[2] = {51 + 3 * (3.4375f + 1.875f + 1.3125f + 14 * 0.1875f + 2.8125f),
+                          51 + 3 * (-2.8125f + 3 + 3 + 14 * 3 + 0.1875f)};
+    float samples[16], made[PALETTE_COSTS], bits = -1;
+    uint16_t rows[PALETTE_ADAPTED];
+    uint8_t map[16], flags[16];
+    uint32_t found[10];
+    for (int i = 0; i < 16; i++) samples[i] = i < 8 ? 10 : 20;
+    even_rows(rows);
+    for (int lent = 0; lent < 2; lent++) {
+        CHECK(palette_costs(rows, lent ? PALETTE_ADAPTED : 0, made) == PALETTE_ACCEPTED);
+        CHECK(palette_search(samples, 16, 16, 1, 8, 0, made, PALETTE_COSTS, map, 16, flags, 16,
+                             found, &bits) == PALETTE_ACCEPTED);
+        CHECK(bits == due[lent]);
+    }
 }
 
 /* Document 01's block, 16 by 1, with room for a place more. */
@@ -63,7 +116,7 @@ static void search(void) {
           PALETTE_COST_TABLE);
     CHECK(palette_search(samples, 16, 16, 1, 8, 0, costs, 301, map, 15, flags, 16, found, &bits) ==
           PALETTE_ROOM);
-    CHECK(filled(map, 17) && filled(flags, 17) && zeros(found, 10) && bits == 0);
+    CHECK(filled(map, 17) && filled(flags, 17) && zeros(found, sizeof found) && bits == 0);
     CHECK(palette_search(samples, 16, 16, 1, 8, 0, costs, 301, map, 16, flags, 16, found, &bits) ==
           PALETTE_ACCEPTED);
     CHECK(memcmp(found, due, sizeof due) == 0 && bits == 51);
@@ -91,7 +144,7 @@ static void list(void) {
                        listed) == PALETTE_LENGTHS);
     CHECK(palette_list(4, 2, 8, colors, 2, false, cells, 8, lines, 2, cache, 0, words, 11,
                        listed) == PALETTE_WORD_ROOM);
-    CHECK(filled(words, sizeof words) && zeros(listed, 2));
+    CHECK(filled(words, sizeof words) && zeros(listed, sizeof listed));
     CHECK(palette_list(4, 2, 8, colors, 2, false, cells, 8, lines, 2, cache, 0, words, 12,
                        listed) == PALETTE_ACCEPTED);
     CHECK(memcmp(words, due, sizeof due) == 0 && filled(words + 12, 4));
@@ -127,7 +180,7 @@ static void read_back(void) {
     CHECK(palette_read(4, 2, 8, cache, 1, words, 12, map, 8, flags, 4, read) == PALETTE_WORD);
     CHECK(palette_read(4, 2, 8, cache, 0, words, 13, map, 8, flags, 4, read) ==
           PALETTE_WORDS_LEFT);
-    CHECK(filled(map, 9) && filled(flags, 5) && zeros(read, 10));
+    CHECK(filled(map, 9) && filled(flags, 5) && zeros(read, sizeof read));
     CHECK(palette_read(4, 2, 8, cache, 0, words, 12, map, 8, flags, 4, read) == PALETTE_ACCEPTED);
     CHECK(memcmp(read, due, sizeof due) == 0);
     CHECK(memcmp(map, cells, 8) == 0 && map[8] == 0xee);
@@ -143,7 +196,7 @@ static void not_listed(void) {
     fill(map, 64), fill(flags, 64), fill(read, sizeof read);
     CHECK(palette_read(64, 1, 8, cache, 2, words, 5, map, 64, flags, 64, read) ==
           PALETTE_NOT_LISTED);
-    CHECK(filled(map, 64) && filled(flags, 64) && zeros(read, 10));
+    CHECK(filled(map, 64) && filled(flags, 64) && zeros(read, sizeof read));
     CHECK(palette_read(64, 1, 8, colors, 2, words, 5, map, 64, flags, 64, read) ==
           PALETTE_ACCEPTED);
 }
@@ -151,6 +204,8 @@ static void not_listed(void) {
 int main(void) {
     block_allowed();
     context();
+    costs();
+    search_with_made_costs();
     search();
     list();
     read_back();

@@ -1,6 +1,7 @@
 /*
  * The search in a program that is linked with -ffast-math, so that subnormal numbers are taken
- * for 0: by itself, and in the default environment. It compiles as C and as C++.
+ * for 0: by itself, and in the default environment; and the making of costs by itself. It compiles
+ * as C and as C++.
  *
  * The compiler may reckon without subnormal numbers here, so they are made and compared by bits.
  */
@@ -112,6 +113,25 @@ static void direct(void) {
     CHECK(least_lambda(palette_search) == PALETTE_LAMBDA);
 }
 
+/* The default costs in this environment. */
+static void make(uint32_t made[PALETTE_COSTS]) {
+    static const uint16_t none[1] = {0};
+    float costs[PALETTE_COSTS];
+    CHECK(palette_costs(none, 0, costs) == PALETTE_ACCEPTED);
+    memcpy(made, costs, sizeof costs);
+}
+
+static uint32_t costs_made_first[PALETTE_COSTS];
+
+/* The costs are exact, so they are the same in every environment, by themselves. */
+static void same_costs(void) {
+    uint32_t made[PALETTE_COSTS];
+    const unsigned before = _mm_getcsr();
+    make(made);
+    CHECK(memcmp(made, costs_made_first, sizeof made) == 0);
+    CHECK(_mm_getcsr() == before);
+}
+
 /* Whether the whole register is afterwards as it was: the exceptions noted in it too. */
 static bool env_kept(void) {
     searched block = smallest();
@@ -134,6 +154,7 @@ static void with_every_rounding(void) {
     for (size_t i = 0; i < 4; i++) {
         CHECK(fesetround(roundings[i]) == 0);
         in_default_env();
+        same_costs();
         CHECK(fegetround() == roundings[i]);
     }
 }
@@ -143,11 +164,16 @@ static void with_exceptions_unmasked(void) {
     const unsigned before = _mm_getcsr();
     _mm_setcsr(before & ~EXCEPTION_MASKS);
     in_default_env();
+    same_costs();
     _mm_setcsr(before);
 }
 
 int main(void) {
     CHECK((_mm_getcsr() & BOTH) == BOTH);
+    _mm_setcsr(_mm_getcsr() & ~BOTH);
+    make(costs_made_first);
+    _mm_setcsr(_mm_getcsr() | BOTH);
+    same_costs();
     direct();
     in_default_env();
     with_every_rounding();

@@ -4,6 +4,7 @@
 pub mod decode;
 pub mod kept;
 pub mod page;
+pub mod rows;
 
 use palette_station::{Block, Colors, Palette};
 use std::env;
