@@ -1,6 +1,8 @@
 //! The command line.
 
-use crate::command::{bars, folder, pgm, printed, refused, zero_costs};
+use crate::command::{bars, folder, form, pgm, printed, refused, zero_costs};
+use palette_station::sheet::{Form, Settings};
+use palette_station::Costs;
 use std::fs;
 
 #[test]
@@ -66,6 +68,20 @@ fn bad_costs() {
     .unwrap();
     refused(&folder, words, "too long");
     refused(&folder, "a.pgm --costs absent --lists l", "absent");
+}
+
+/// Without `--costs`, and where a file lends the same 301 numbers.
+#[test]
+fn default_costs() {
+    let folder = folder("default-costs");
+    fs::write(folder.join("a.pgm"), pgm(40, 20, 255, bars)).unwrap();
+    let without = form(&folder, "a.pgm");
+    let settings = Form::read(without.as_bytes()).unwrap().settings().clone();
+    assert_eq!(settings.costs, Costs::default());
+    assert_eq!(settings, Settings::of_depth(8));
+    let costs = Costs::default().as_table().map(|cost| cost.to_string());
+    fs::write(folder.join("costs"), costs.join("\n")).unwrap();
+    assert_eq!(form(&folder, "a.pgm --costs costs"), without);
 }
 
 #[test]
