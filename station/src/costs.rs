@@ -173,7 +173,7 @@ impl Costs {
 
 /// The costs from the default rows, the source's with mode 2723; [`Costs::adapted`] has the rule.
 ///
-/// They are made at each call, in some ten microseconds: for many blocks make them once.
+/// They are made at each call, in a few microseconds: for many blocks make them once.
 ///
 /// ```
 /// use palette_station::Costs;
