@@ -1,22 +1,37 @@
--- A search with costs made from a table never refuses by 5.
+-- The search reads costs made here as they were made, and never refuses them by 5.
 use mathlib.Core.Path.{_≡_, refl, sym, ap, _∙_}
 use mathlib.Core.Bool.{Bool, true, false, cond, not, false≢true}
 use mathlib.Core.List.{List}
-use Prim.Native.Nat.{ℕ, _*_}
+use Prim.Native.Nat.{ℕ, _+_, _-_, _*_}
 use native.Mathlib.Omega.{arith}
 use lib.Dec.{eqb, ltb}
-use lib.Ieee.{Float}
-use lib.ListN.{length}
+use lib.Ieee.{Float, nan}
+use lib.ListN.{length, getD}
 use borrow.Author.Tests.{eqb-true}
 use Rattle.samples.specs.Samples.{lambdaOk, costsOk, samplesOk}
-use Rattle.costs.specs.Costs.{costsOf}
+use Rattle.costs.specs.Costs.{tableCosts, costsOf}
+use Rattle.costs.proofs.Placed.{stands}
 use Rattle.costs.proofs.Bounded.{always-bounded}
+use Rattle.cells.specs.Cell.{ratesOf}
+use Rattle.cells.proofs.Eight.{eight-at}
+use Rattle.sizes.specs.Sizes.{headOf}
 use Rattle.accept.specs.Accepted.{sidesOk, depthOk}
 use Rattle.accept.specs.Answer.{roomsOk, refusedBy}
 use Rattle.sizes.specs.declared.Block.{Block}
 use Rattle.search.specs.Search.{histogramIn, foundIn, largeOk, faultOf, searchNumber, paletteBy}
 use Rattle.search.specs.declared.Best.{Best}
-use Rattle.found.specs.MadeCosts.{MadeNeverFive}
+use Rattle.found.specs.MadeCosts.{SearchReadsAsMade, MadeNeverFive}
+
+pub search-reads-as-made : SearchReadsAsMade
+unfolding headOf ratesOf
+search-reads-as-made table =
+    let p = stands table in
+    record {
+      head = λ b colors two most. rw (p .mode 0 (omega arith), p .mode 1 (omega arith), p .size (length colors) two most) refl;
+      flag = p .row;
+      rank = λ n c s two most five h.
+          eight-at (λ r. getD (tableCosts table) (21 + ((n - 2) * 5 + c) * 8 + r) nan) s (omega arith) ∙ p .colour n c s two most five (omega arith);
+    }
 
 -- a choice of two other numbers
 other : (t : Bool) (k x : ℕ) → (k ≡ 5 → ⊥) → (x ≡ 5 → ⊥) → cond t k x ≡ 5 → ⊥
