@@ -2,10 +2,11 @@
 //! from our crates.
 
 use crate::lent::{Costs, COSTS};
-use crate::places::default_numbers;
 use std::cmp::Ordering;
 use std::iter::{once, repeat_n};
 use std::sync::LazyLock;
+
+pub use crate::places::default_numbers;
 
 /// What stands before every row, and the greatest probability.
 pub const WHOLE: u16 = 32_768;

@@ -39,7 +39,7 @@ pub(crate) fn used_from(from: usize) -> Option<usize> {
 }
 
 /// The original's own rows, one behind the other as an adapted table has them.
-pub(crate) fn default_numbers() -> Vec<u16> {
+pub fn default_numbers() -> Vec<u16> {
     let rows = ROW_ROWS.as_flattened();
     let colors = COLOR_ROWS.as_flattened().as_flattened();
     [&MODE_ROW[..], &SIZE_ROW, rows, colors].concat()

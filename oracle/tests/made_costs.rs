@@ -3,8 +3,11 @@
 
 use palette_oracle::generate::adapted::{table, TableDamage, TableKind, TableKinds};
 use palette_oracle::generate::costs::logarithms;
-use palette_oracle::made_costs::{made_costs, meets, rows, sixteenths, Row, NUMBERS, WHOLE};
+use palette_oracle::made_costs::{
+    default_numbers, made_costs, meets, rows, sixteenths, Row, NUMBERS, WHOLE,
+};
 use std::collections::BTreeSet;
+use std::fs;
 
 const COUNT: u64 = 20_000;
 
@@ -166,4 +169,30 @@ fn chances(numbers: &[u16], row: &Row) -> Vec<u16> {
     let used = &numbers[row.at..][..row.used];
     let all = [&[WHOLE], used, &[0]].concat();
     all.windows(2).map(|pair| pair[0] - pair[1]).collect()
+}
+
+fn source(name: &str) -> String {
+    let path = format!("../crates/{name}/src/lib.rt");
+    fs::read_to_string(&path).unwrap_or_else(|e| panic!("{path}: {e}"))
+}
+
+/// The numbers of a source text between two of its words.
+fn numbers_between(text: &str, start: &str, end: &str) -> Vec<u16> {
+    let (_, behind) = text.split_once(start).expect(start);
+    let (numbers, _) = behind.split_once(end).expect(end);
+    let fields = numbers.split(|letter: char| !letter.is_ascii_digit());
+    let fields = fields.filter(|field| !field.is_empty());
+    fields.map(|field| field.parse().expect(field)).collect()
+}
+
+/// Nearly every default number can be changed a little with all costs as before, so the numbers
+/// themselves are compared: those of the crates' sources with the original's.
+#[test]
+fn the_crates_have_the_originals_numbers() {
+    let (tables, costs) = (source("tables"), source("costs"));
+    let mode = numbers_between(&costs, "if k < 1 {\n        return ", ";");
+    let size = numbers_between(&tables, "const Y_SIZE_ICDF: [u16; 6] =", ";");
+    let row = numbers_between(&tables, "const ROW_ICDF: [[u16; 2]; 4] =", ";");
+    let color = numbers_between(&tables, "const COLOR_ICDF: [[[u16; 7]; 5]; 7] =", ";");
+    assert_eq!([mode, size, row, color].concat(), default_numbers());
 }

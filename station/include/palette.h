@@ -104,8 +104,8 @@ uint32_t palette_context(const uint8_t *map, size_t cells, size_t stride, size_t
  * falls strictly from at most 32767 to at least 1: a symbol's probability out of 32768 is the
  * number before it less its own, where 32768 stands before the row and 0 after it. Probability p
  * costs c / 16, with c the largest whole number where 2^c p^16 <= 2^240. Places of ranks that n
- * colours do not have cost 0. All of this is done in whole numbers: the costs are the same on
- * every machine.
+ * colours do not have cost 0. c is found in whole numbers, and c / 16 is exact in a float: the costs
+ * are the same on every machine.
  *
  * Returns 0, or 24, 25, tested in this order. Writes `costs`, each within 0..15, in the order that
  * palette_search takes; it never refuses them by 5.

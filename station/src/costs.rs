@@ -34,8 +34,8 @@ const COLOR: usize = 21;
 pub struct Costs([f32; COSTS]);
 
 impl Costs {
-    /// The costs from a tile's adapted rows. They are sixteenths of a bit, worked out in whole
-    /// numbers by document 02's rule, and so the same on every machine.
+    /// The costs from a tile's adapted rows. They are sixteenths of a bit, found in whole numbers by
+    /// document 02's rule and exact in f32, and so the same on every machine.
     ///
     /// The rows stand one behind the other, [`ADAPTED`](crate::ADAPTED) numbers in all: mode 1,
     /// size 6, row 4 × 2 (for each line context), colour 7 × 5 × 7 (for each n from 2 to 8, for

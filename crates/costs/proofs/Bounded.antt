@@ -18,7 +18,7 @@ use Rattle.costs.specs.Rows.{rowAt, chanceOf, part, defaults}
 use Rattle.costs.specs.Costs.{costIn, rowCosts, tableOf, tableCosts, costsNumber, costsOf}
 use Rattle.costs.specs.Made as made
 use Rattle.costs.proofs.Largest.{cost-most}
-use Rattle.costs.proofs.Placed.{total}
+use Rattle.costs.proofs.Placed.{count}
 
 -- within 0..15 and 0..32
 abbrev near : Float → Bool
@@ -39,7 +39,9 @@ at : (c : ℕ) → c ≤ 240 → sound c ≡ true
 at c h = allBelow-at sound 241 all c (omega arith)
 
 pub exact : made.SixteenthsExact
-exact c h = eqb-true _ _ (and-r (near (sixteenths c)) _ (at c h))
+exact c h =
+    let x = sixteenths c in
+    (and-l _ (inRange 32 x) (and-l _ (eqb (16 * num x) (c * den x)) (at c h)), eqb-true _ _ (and-r (near x) _ (at c h)))
 
 cost-near : (row : List ℕ) (s : ℕ) → near (costIn row s) ≡ true
 unfolding costIn
@@ -85,7 +87,7 @@ always-bounded adapted =
     either-way (λ l. made.Bounded l) (eqb (costsNumber adapted) 0) (tableCosts table) zeros
     (record {
       range = table-in 15 (λ row s. and-l _ (inRange 32 (costIn row s)) (cost-near row s)) table;
-      passes = and-both (eqb (length (tableCosts table)) 301) (allInRange 32 (tableCosts table)) (eq-eqb _ 301 (total table))
+      passes = and-both (eqb (length (tableCosts table)) 301) (allInRange 32 (tableCosts table)) (eq-eqb _ 301 (count table))
           (table-in 32 (λ row s. and-r (inRange 15 (costIn row s)) _ (cost-near row s)) table);
     })
     (record { range = and-l _ (allInRange 32 zeros) zeros-in; passes = and-r (allInRange 15 zeros) _ zeros-in })

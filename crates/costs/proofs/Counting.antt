@@ -11,7 +11,7 @@ use lib.ListN.{getD}
 use borrow.Author.Tests.{le-leb, lt-leb}
 use Rattle.lists.proofs.Choice.{cond-same}
 use Rattle.costs.specs.Cost.{meets, last}
-use Rattle.costs.specs.Thresholds.{thresholds}
+use Rattle.costs.specs.Thresholds.{thresholdTable}
 use Rattle.costs.proofs.Thresholds.{meets-by}
 use Rattle.costs.proofs.Largest.{meets-falls}
 
@@ -34,11 +34,11 @@ last-next p i c e true t = rw t (omega (arith, sym e ∙ last-before p i t))
 last-next p i c e false t = rw t (sym e)
 
 -- one more threshold
-pub turn : (limits : List ℕ) → limits ≡ thresholds → (p c i next : ℕ) → 1 ≤ i → i < 241 → c ≡ last (meets p) i
-    → ((p ≤ getD limits i 0) × (next ≡ c + 1)) ⊎ ((getD limits i 0 < p) × (next ≡ c)) → next ≡ last (meets p) (i + 1)
-turn limits t p c zero next one h e w = absurd (omega arith)
-turn limits t p c (suc i) next one h e w =
-    let met : meets p (suc i) ≡ leb p (getD limits (suc i) 0) = rw t (meets-by p (suc i) h) in
+pub turn : (thresholds : List ℕ) → thresholds ≡ thresholdTable → (p c i next : ℕ) → 1 ≤ i → i < 241 → c ≡ last (meets p) i
+    → ((p ≤ getD thresholds i 0) × (next ≡ c + 1)) ⊎ ((getD thresholds i 0 < p) × (next ≡ c)) → next ≡ last (meets p) (i + 1)
+turn thresholds t p c zero next one h e w = absurd (omega arith)
+turn thresholds t p c (suc i) next one h e w =
+    let met : meets p (suc i) ≡ leb p (getD thresholds (suc i) 0) = rw t (meets-by p (suc i) h) in
     rw (add-one (suc i))
     (⊎-elim
     (λ u. u .1 ∙ last-next p i c (sym e) true (met ∙ le-leb _ _ (u .0)))

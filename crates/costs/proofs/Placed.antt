@@ -11,9 +11,9 @@ use Rattle.lists.specs.Counted.{upTo}
 use Rattle.lists.proofs.Counted.{length-upTo, length-more, upTo-at}
 use Rattle.lists.proofs.Each.{each-at}
 use Rattle.costs.specs.declared.Row.{Row}
-use Rattle.costs.specs.Rows.{rowAt, part}
+use Rattle.costs.specs.Rows.{row, rowAt, part}
 use Rattle.costs.specs.Costs.{costIn, rowCosts, tableCosts}
-use Rattle.costs.specs.Made.{StandsWhereRead}
+use Rattle.costs.specs.Made.{StandsInOrder}
 use Rattle.costs.proofs.Rows.{lies}
 
 module _ (table : List ℕ) where
@@ -30,9 +30,9 @@ module _ (table : List ℕ) where
       subst (λ k. length (upTo (rowCosts table) k) ≡ rowAt k .at + k) (add-one r)
       (omega (arith, next, length-more (rowCosts table) r, long r, starts r (omega arith)))
 
-  pub total : length (tableCosts table) ≡ 301
+  pub count : length (tableCosts table) ≡ 301
   unfolding tableCosts rowAt
-  total = starts 41 (omega arith)
+  count = starts 41 (omega arith)
 
   -- cost s of row r, at place k
   at-row : (r s k : ℕ) (p : Row) → r < 41 → rowAt r ≡ p → s ≤ p .room → p .at + r + s ≡ k
@@ -48,9 +48,6 @@ module _ (table : List ℕ) where
       ap (λ m. getD (upTo (rowCosts table) 41) m nan) (sym there) ∙ cost ∙ ap (λ (q : Row). costIn (part table (q .at) (q .used)) s) e
 
 -- the rows by their kinds
-abbrev row : ℕ → ℕ → ℕ → Row
-row at used room = record { at = at; used = used; room = room }
-
 line-row : (c : ℕ) → c < 4 → rowAt (2 + c) ≡ row (7 + c * 2) 2 2
 unfolding rowAt
 line-row c h =
@@ -63,7 +60,7 @@ colour-row k =
     let e : 6 + k - 6 ≡ k = omega arith in
     simp (le-ltb (6 + k) 1 (omega arith), le-ltb (6 + k) 2 (omega arith), le-ltb (6 + k) 6 (omega arith)) (rw e refl)
 
-pub stands : StandsWhereRead
+pub stands : StandsInOrder
 unfolding rowAt
 stands table =
     record {

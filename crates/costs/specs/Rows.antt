@@ -8,7 +8,7 @@ use Rattle.lists.specs.Counted.{upTo, allBelow}
 use Rattle.tables.specs.Icdf.{sizeTable, rowTable, colorRows}
 use Rattle.costs.specs.declared.Row.{Row}
 
-abbrev row : ℕ → ℕ → ℕ → Row
+abbrev pub row : ℕ → ℕ → ℕ → Row
 row at used room = record { at = at; used = used; room = room }
 
 -- The 41 rows one behind the other: mode 1, size 6, rows 4 × 2, colours 7 × 5 × 7. Row r starts at `at` and has `room` places, of

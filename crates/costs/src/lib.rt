@@ -4,7 +4,7 @@ ghost use mathlib.Core.Logic.{_⊎_};
 ghost use Prim.Native.Nat.{_+_, _≤_, _<_};
 ghost use lib.ListN.{length, getD};
 ghost use Rattle.costs.specs.Cost.{costOf, sixteenths};
-ghost use Rattle.costs.specs.Thresholds.{thresholds};
+ghost use Rattle.costs.specs.Thresholds.{thresholdTable};
 ghost use Rattle.lists.specs.Counted.{each};
 ghost use Rattle.tables.specs.Icdf.{colorRows};
 ghost use Rattle.costs.specs.Rows.{before, chanceOf, rowAt, part, defaults, numberOk, rowOk, rowsOk};
@@ -270,14 +270,14 @@ pub struct Row {
 
 // The last c whose threshold is at least p. Thresholds never rise, so it is the number of those behind the first that are;
 // counting takes eight of them at once, where halving jumps by p and is mispredicted.
-fn last_met(limits: &[u16], p: u16) -> u16
-    requires { ⌜ now limits ≡ thresholds ⌝ }
+fn last_met(thresholds: &[u16], p: u16) -> u16
+    requires { ⌜ now thresholds ≡ thresholdTable ⌝ }
     ensures { λ r. ⌜ r ≡ costOf p ⌝ }
 {
     let mut c: u16 = 0;
     let mut i: usize = 1;
     while i < 241 {
-        if p <= limits[i] {
+        if p <= thresholds[i] {
             c += 1;
         }
         i += 1;
@@ -289,8 +289,8 @@ fn last_met(limits: &[u16], p: u16) -> u16
 pub fn cost_of(p: u16) -> u16
     ensures { λ r. ⌜ r ≡ costOf p ⌝ }
 {
-    let limits = THRESHOLDS;
-    last_met(&limits, p)
+    let thresholds = THRESHOLDS;
+    last_met(&thresholds, p)
 }
 
 // c / 16
@@ -330,24 +330,24 @@ fn chance(row: &[u16], s: usize) -> u16
 }
 
 // The cost of symbol s of a row; unused ones cost 0.
-fn cost_in(limits: &[u16], row: &[u16], s: usize) -> f32
-    requires { ⌜ now limits ≡ thresholds ⌝ }
+fn cost_in(thresholds: &[u16], row: &[u16], s: usize) -> f32
+    requires { ⌜ now thresholds ≡ thresholdTable ⌝ }
     ensures { λ r. ⌜ r ≡ costIn (now (row .entry)) s ⌝ }
 {
     if row.len() < s {
         return 0.0;
     }
-    sixteenth(last_met(limits, chance(row, s)))
+    sixteenth(last_met(thresholds, chance(row, s)))
 }
 
 // The costs of a row's symbols, and zeros for the unused ones behind them.
-fn put_costs(limits: &[u16], row: &[u16], costs: &mut [f32])
-    requires { ⌜ now limits ≡ thresholds ⌝ }
+fn put_costs(thresholds: &[u16], row: &[u16], costs: &mut [f32])
+    requires { ⌜ now thresholds ≡ thresholdTable ⌝ }
     ensures { λ r. ⌜ now (costs .exit) ≡ each (costIn (now (row .entry))) (length (now (costs .entry))) ⌝ }
 {
     let mut s: usize = 0;
     while s < costs.len() {
-        costs[s] = cost_in(limits, row, s);
+        costs[s] = cost_in(thresholds, row, s);
         s += 1;
     }
 }
@@ -404,7 +404,7 @@ fn all_costs<'a>(adapted: &'a [u16], default: &'a [u16]) -> [f32; 301]
     requires { ⌜ (length (now default) ≡ 260) × ((length (now adapted) ≡ 0) ⊎ (length (now adapted) ≡ 260)) ⌝ }
     ensures { λ r. ⌜ r ≡ tableCosts (tableOf (now (adapted .entry)) (now (default .entry))) ⌝ }
 {
-    let limits = THRESHOLDS;
+    let thresholds = THRESHOLDS;
     let mut costs = [0.0f32; 301];
     let mut r: usize = 0;
     while r < 41 {
@@ -412,7 +412,7 @@ fn all_costs<'a>(adapted: &'a [u16], default: &'a [u16]) -> [f32; 301]
         let from = row.at + r;
         let to = from + row.room + 1;
         put_costs(
-            &limits,
+            &thresholds,
             row_of(adapted, default, row.at, row.used),
             &mut costs[from..to],
         );

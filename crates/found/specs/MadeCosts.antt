@@ -19,7 +19,7 @@ use Rattle.search.specs.Search.{Searches}
 use Rattle.accept.specs.declared.Palette.{Palette}
 
 -- What the search reads from the costs of a table is the cost of the symbol that it prices: mode and size in the head, a line's flag under its
--- context, a cell's rank among n colours under its context.
+-- context, a cell's rank among n colours under its context. (Beside these it reads the least of the twelve flag costs.)
 pub record ReadAsMade (table : List ℕ) : Type 0 where
   pub head : (b : Block) (colors : List ℕ) → 2 ≤ length colors → length colors ≤ 8
       → let mode = sub binary32 (costIn (part table 0 1) 1) (costIn (part table 0 1) 0) in

@@ -12,13 +12,14 @@ use lib.ListN.{length, getD, length-map}
 use lib.Ieee.{Float}
 use borrow.Author.Tests.{ltb-true, ltb-false}
 use Rattle.lists.proofs.Ascending.{is-ascending, ascending-at}
+use Rattle.lists.specs.Counted.{total}
 use Rattle.samples.specs.Samples.{samplesOk, levelOf}
 use Rattle.samples.proofs.Ranges.{level-in}
 use Rattle.groups.specs.Histogram.{occurs, perLevel, places, levelsOf, histogramOf, sumTo, IsHistogram}
 use Rattle.groups.proofs.Each.{each-at}
 use Rattle.groups.proofs.Levels.{places-length, same-length, none-occurs}
 use Rattle.groups.proofs.Kept.{Seen, seen, kept-at, kept-past, kept-times, place-at}
-use Rattle.groups.proofs.Totals.{total, sum-same, counts-total, cells-total}
+use Rattle.groups.proofs.Totals.{sum-same, counts-total, cells-total}
 
 -- ---- the histogram
 not-above : (a b : ℕ) → (suc a ≤ b → ⊥) → b ≤ a

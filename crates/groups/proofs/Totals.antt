@@ -2,18 +2,14 @@
 use mathlib.Core.Path.{_≡_, refl, _∙_}
 use mathlib.Core.Bool.{Bool, true, false, cond}
 use mathlib.Core.List.{List, [], _∷_, _++_, append-nil}
-use Prim.Native.Nat.{ℕ, zero, suc, _+_, _-_, _≤_, _<_, zero-le}
+use Prim.Native.Nat.{ℕ, zero, suc, _+_, _≤_, _<_, zero-le}
 use native.Mathlib.Nat.{add-comm, add-assoc}
 use native.Mathlib.Omega.{arith}
 use lib.Dec.{eqb, ltb}
 use lib.ListN.{length, getD, length-append}
 use borrow.Author.Tests.{eqb-true, eqb-false, ltb-true, ltb-false, lt-ltb, le-ltb}
-use Rattle.lists.specs.Counted.{upTo, bit}
+use Rattle.lists.specs.Counted.{upTo, total, bit}
 use Rattle.groups.specs.Histogram.{occurs, perLevel, sumTo}
-
-pub total : (ℕ → ℕ) → ℕ → ℕ
-total count zero = 0
-total count (suc m) = total count m + count m
 
 sum-cons : (x : ℕ) (xs : List ℕ) (k : ℕ) → sumTo (x ∷ xs) (suc k) ≡ x + sumTo xs k
 unfolding sumTo

@@ -1,5 +1,5 @@
 -- What is said of each number below a bound, and of each element of a list.
-use Prim.Native.Nat.{ℕ, zero, suc}
+use Prim.Native.Nat.{ℕ, zero, suc, _+_}
 use mathlib.Core.Bool.{Bool, true, false, _&&_, _||_}
 use mathlib.Core.List.{List, [], _∷_, _++_}
 use lib.Dec.{eqb, ltb, leb}
@@ -16,6 +16,11 @@ upTo f (suc n) = upTo f n ++ f n
 -- the list of f 0, f 1, .., f (n - 1)
 abbrev pub each : {A : Type 0} → (ℕ → A) → ℕ → List A
 each f n = upTo (λ i. f i ∷ []) n
+
+-- f 0 + f 1 + .. + f (n - 1)
+unfoldable pub total : (ℕ → ℕ) → ℕ → ℕ
+total f zero = 0
+total f (suc n) = total f n + f n
 
 -- the test passes at 0, 1, .., n - 1
 unfoldable pub allBelow : (ℕ → Bool) → ℕ → Bool

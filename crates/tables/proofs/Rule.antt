@@ -6,10 +6,10 @@ use native.Mathlib.Decide.{decLt}
 use native.Mathlib.Omega.{arith}
 use lib.Dec.{ltb, leb, eqb}
 use borrow.Author.Tests.{ltb-true, leb-true, eqb-true, le-leb, lt-ltb, le-ltb}
-use Rattle.lists.specs.Counted.{allBelow}
+use Rattle.lists.specs.Counted.{upTo, allBelow}
 use Rattle.lists.proofs.Choice.{and-l, and-r}
 use Rattle.lists.proofs.Counted.{allBelow-at}
-use Rattle.tables.specs.Icdf.{colorIcdf, colorTable}
+use Rattle.tables.specs.Icdf.{colorTable, colorRows, colorIcdf}
 use Rattle.tables.specs.Rule.{RowRule}
 
 -- the rule at one place of a row
@@ -19,7 +19,7 @@ ruled n context k =
     cond (ltb (k + 1) n) (leb x 32767 && leb 1 x && (not (ltb (k + 2) n) || ltb (colorIcdf n context (k + 1)) x)) (eqb x 0)
 
 whole : allBelow (λ m. allBelow (λ context. allBelow (ruled (m + 2) context) 7) 5) 7 ≡ true
-unfolding allBelow colorIcdf colorTable
+unfolding allBelow upTo colorIcdf colorRows colorTable
 whole = refl
 
 module _ (n context : ℕ) (two : 2 ≤ n) (eight : n ≤ 8) (five : context < 5) where

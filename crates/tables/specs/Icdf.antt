@@ -1,5 +1,5 @@
 -- Document 01, 'Modules, leaves first', 1: the three tables as lists, and their numbers by place.
-use Prim.Native.Nat.{ℕ, _-_, _/_, _%_}
+use Prim.Native.Nat.{ℕ, _+_, _-_, _*_, _/_, _%_}
 use mathlib.Core.Bool.{cond, _&&_}
 use mathlib.Core.List.{List, [], _∷_}
 use lib.Dec.{ltb, leb}
@@ -59,10 +59,11 @@ sizeIcdf k = getD sizeTable k 0
 unfoldable pub rowIcdf : ℕ → ℕ → ℕ
 rowIcdf context k = cond (ltb context 4 && ltb k 2) (getD (getD rowTable context []) k 0) 0
 
-unfoldable pub colorIcdf : ℕ → ℕ → ℕ → ℕ
-colorIcdf n context k =
-    cond (leb 2 n && leb n 8 && ltb context 5 && ltb k 7) (getD (getD (getD colorTable (n - 2) []) context []) k 0) 0
-
 -- the rows of the colours, one behind the other
 unfoldable pub colorRows : List ℕ
 colorRows = upTo (λ b. getD (getD colorTable (b / 5) []) (b % 5) []) 35
+
+-- number k of the row of n colours and a context
+unfoldable pub colorIcdf : ℕ → ℕ → ℕ → ℕ
+colorIcdf n context k =
+    cond (leb 2 n && leb n 8 && ltb context 5 && ltb k 7) (getD colorRows (((n - 2) * 5 + context) * 7 + k) 0) 0

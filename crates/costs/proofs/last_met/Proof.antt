@@ -10,10 +10,10 @@ use Rattle.costs.proofs.last_met.Statement.{statement}
 use Rattle.costs.proofs.last_met.Tie as tie
 
 abbrev Inv-loop : tie.InvT-loop
-Inv-loop limits p c₀ i₀ c i = (1 ≤ i) × (i ≤ 241) × (c ≤ i) × (c ≡ last (meets p) i)
+Inv-loop thresholds p c₀ i₀ c i = (1 ≤ i) × (i ≤ 241) × (c ≤ i) × (c ≡ last (meets p) i)
 
 abbrev μ-loop : tie.MeasureT-loop
-μ-loop limits p c₀ i₀ c i = 241 - i
+μ-loop thresholds p c₀ i₀ c i = 241 - i
 
 loop-holds : tie.Need-loop-holds Inv-loop μ-loop
 loop-holds c = (omega arith, omega arith, omega arith, begins _)

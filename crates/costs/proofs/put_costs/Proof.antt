@@ -11,10 +11,10 @@ use Rattle.costs.proofs.put_costs.Statement.{statement}
 use Rattle.costs.proofs.put_costs.Tie as tie
 
 abbrev Inv-loop : tie.InvT-loop
-Inv-loop limits row costs₀ s₀ costs s = (length costs ≡ length costs₀) × Filled nan (each (costIn row) (length costs₀)) costs s
+Inv-loop thresholds row costs₀ s₀ costs s = (length costs ≡ length costs₀) × Filled nan (each (costIn row) (length costs₀)) costs s
 
 abbrev μ-loop : tie.MeasureT-loop
-μ-loop limits row costs₀ s₀ costs s = length costs₀ - s
+μ-loop thresholds row costs₀ s₀ costs s = length costs₀ - s
 
 loop-holds : tie.Need-loop-holds Inv-loop μ-loop
 loop-holds c = (refl, starts nan _ _ (sym (length-upTo _ _)))

@@ -27,13 +27,17 @@ array-share-prefix-cache : tie.Need-array-share-prefix-cache
 array-share-prefix-cache c = search needs
 
 slice-aggregate-print-line : tie.Need-slice-aggregate-print-line
-slice-aggregate-print-line c = let r = c .before .before .before .before .before .before .before .before .read-pairs in sym (length-take-le _ (r .last .0) (omega (arith, r .kept .0)))
+slice-aggregate-print-line c =
+    let r = c .before .before .before .before .before .before .before .before .read-pairs in
+    sym (length-take-le _ (r .last .0) (omega (arith, r .kept .0)))
 
 array-share-prefix-flags : tie.Need-array-share-prefix-flags
 array-share-prefix-flags c = search needs
 
 slice-aggregate-print-line-2 : tie.Need-slice-aggregate-print-line-2
-slice-aggregate-print-line-2 c = let r = c .before .before .before .before .before .before .read-front in sym (length-take-le _ (r .last .0) (omega (arith, r .kept .0)))
+slice-aggregate-print-line-2 c =
+    let r = c .before .before .before .before .before .before .read-front in
+    sym (length-take-le _ (r .last .0) (omega (arith, r .kept .0)))
 
 array-share-prefix-map : tie.Need-array-share-prefix-map
 array-share-prefix-map c = search needs
