@@ -82,7 +82,8 @@ upTo-longer f m (suc n) h =
     (eq-or-lt-of-le h)
 
 -- place k of piece m
-pub upTo-at : {A : Type 0} (f : ℕ → List A) (d : A) (n m k : ℕ) → m < n → k < length (f m) → getD (upTo f n) (length (upTo f m) + k) d ≡ getD (f m) k d
+pub upTo-at : {A : Type 0} (f : ℕ → List A) (d : A) (n m k : ℕ) → m < n → k < length (f m)
+    → getD (upTo f n) (length (upTo f m) + k) d ≡ getD (f m) k d
 unfolding upTo
 upTo-at f d zero m k h l = absurd (omega arith)
 upTo-at f d (suc n) m k h l =
