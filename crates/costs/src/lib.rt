@@ -269,7 +269,7 @@ pub struct Row {
 }
 
 // The last c whose threshold is at least p. Thresholds never rise, so it is the number of those behind the first that are;
-// counting takes eight of them at once, where halving jumps by p and is mispredicted.
+// counting takes eight of them at once, where halving jumps by p.
 fn last_met(thresholds: &[u16], p: u16) -> u16
     requires { ⌜ now thresholds ≡ thresholdTable ⌝ }
     ensures { λ r. ⌜ r ≡ costOf p ⌝ }
