@@ -356,7 +356,8 @@ fn count_levels(place: u64, samples: &[f32], costs: &[f32], b: Block, h: groups:
 
 // The map searches of a block; none where the search, with room for every map, refuses it.
 fn count_block(place: u64, samples: &[f32], costs: &[f32], b: Block) {
-    if search::fault(samples, costs, b, 4096, 64) != 0 {
+    let price = search::price_fault(b.lambda, costs);
+    if search::fault(samples, b, price, 4096, 64) != 0 {
         return;
     }
     let h = groups::histogram_of(samples, b.bd);

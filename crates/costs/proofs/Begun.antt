@@ -8,10 +8,10 @@ use lib.ListN.{length, take, length-append}
 use lib.Seq.{length-take-le, take-all, take-at}
 use lib.Ieee.{Float}
 use borrow.Rule.Slice.PartMut.{midOf, postOf, putMid, same-len-mid, mid-len}
-use Rattle.lists.specs.Counted.{upTo, each}
+use Rattle.lists.specs.Counted.{part, upTo, each}
 use Rattle.lists.proofs.Counted.{length-upTo, upTo-more}
 use Rattle.costs.specs.declared.Row.{Row}
-use Rattle.costs.specs.Rows.{rowAt, part}
+use Rattle.costs.specs.Rows.{rowAt}
 use Rattle.costs.specs.Costs.{costIn, rowCosts, tableCosts}
 use Rattle.costs.proofs.Rows.{lies, costs-inside}
 

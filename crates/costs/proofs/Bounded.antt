@@ -9,12 +9,12 @@ use lib.ListN.{length, replicate}
 use lib.Ieee.{Float, binary32, le, div, ofBits, ofInt}
 use lib.Ieee.Positive.{num, den}
 use borrow.Author.Tests.{eqb-true, eq-eqb}
-use Rattle.lists.specs.Counted.{upTo, allBelow}
+use Rattle.lists.specs.Counted.{part, upTo, allBelow}
 use Rattle.lists.proofs.Choice.{and-l, and-r, and-both, either-way}
 use Rattle.lists.proofs.Counted.{allBelow-at}
 use Rattle.samples.specs.Samples.{inRange, allInRange}
 use Rattle.costs.specs.Cost.{costOf, sixteenths}
-use Rattle.costs.specs.Rows.{rowAt, chanceOf, part, defaults}
+use Rattle.costs.specs.Rows.{rowAt, chanceOf, defaults}
 use Rattle.costs.specs.Costs.{costIn, rowCosts, tableOf, tableCosts, costsNumber, costsOf}
 use Rattle.costs.specs.Made as made
 use Rattle.costs.proofs.Largest.{cost-most}

@@ -7,11 +7,11 @@ use native.Mathlib.Numerals.{add-one}
 use lib.ListN.{length, getD}
 use lib.Ieee.{nan}
 use borrow.Author.Tests.{lt-ltb, le-ltb}
-use Rattle.lists.specs.Counted.{upTo}
+use Rattle.lists.specs.Counted.{part, upTo}
 use Rattle.lists.proofs.Counted.{length-upTo, length-more, upTo-at}
 use Rattle.lists.proofs.Each.{each-at}
 use Rattle.costs.specs.declared.Row.{Row}
-use Rattle.costs.specs.Rows.{row, rowAt, part}
+use Rattle.costs.specs.Rows.{row, rowAt}
 use Rattle.costs.specs.Costs.{costIn, rowCosts, tableCosts}
 use Rattle.costs.specs.Made.{StandsInOrder}
 use Rattle.costs.proofs.Rows.{lies}

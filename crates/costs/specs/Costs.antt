@@ -6,10 +6,10 @@ use mathlib.Core.List.{List}
 use lib.Dec.{leb, eqb}
 use lib.ListN.{length, replicate}
 use lib.Ieee.{Float, binary32, ofBits}
-use Rattle.lists.specs.Counted.{upTo, each}
+use Rattle.lists.specs.Counted.{part, upTo, each}
 use Rattle.costs.specs.declared.Costs.{Costs}
 use Rattle.costs.specs.Cost.{costOf, sixteenths}
-use Rattle.costs.specs.Rows.{rowAt, part, defaults, chanceOf, rowsOk}
+use Rattle.costs.specs.Rows.{rowAt, defaults, chanceOf, rowsOk}
 
 -- the cost of symbol s of a row; unused ones cost 0
 unfoldable pub costIn : List ℕ → ℕ → Float

@@ -6,10 +6,10 @@ use mathlib.Core.List.{List}
 use lib.ListN.{getD}
 use lib.Ieee.{Float, nan}
 use lib.Ieee.Positive.{num, den}
-use Rattle.lists.specs.Counted.{total}
+use Rattle.lists.specs.Counted.{part, total}
 use Rattle.samples.specs.Samples.{inRange, allInRange, costsOk}
 use Rattle.costs.specs.Cost.{costOf, Largest, sixteenths}
-use Rattle.costs.specs.Rows.{rowAt, part, chanceOf, defaults}
+use Rattle.costs.specs.Rows.{rowAt, chanceOf, defaults}
 use Rattle.costs.specs.Costs.{costIn, tableOf, tableCosts, costsNumber, costsOf}
 
 -- Each cost stands at document 01's place: mode 2, size 7, row 4 × 3, colour 7 × 5 × 8.

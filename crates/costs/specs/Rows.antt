@@ -3,8 +3,8 @@ use Prim.Native.Nat.{ℕ, _+_, _-_, _*_, _/_}
 use mathlib.Core.Bool.{Bool, cond, _&&_}
 use mathlib.Core.List.{List, [], _∷_, _++_}
 use lib.Dec.{ltb, leb, eqb}
-use lib.ListN.{length, getD, take, drop}
-use Rattle.lists.specs.Counted.{upTo, allBelow}
+use lib.ListN.{length, getD}
+use Rattle.lists.specs.Counted.{part, upTo, allBelow}
 use Rattle.tables.specs.Icdf.{sizeTable, rowTable, colorRows}
 use Rattle.costs.specs.declared.Row.{Row}
 
@@ -19,10 +19,6 @@ rowAt r =
     (cond (ltb r 2) (row 1 6 6)
     (cond (ltb r 6) (row (7 + (r - 2) * 2) 2 2)
     (row (15 + (r - 6) * 7) ((r - 6) / 5 + 1) 7)))
-
--- the numbers from a place on
-abbrev pub part : List ℕ → ℕ → ℕ → List ℕ
-part table at len = take len (drop at table)
 
 -- default rows: mode 2723, then the source's three tables
 unfoldable pub defaults : List ℕ

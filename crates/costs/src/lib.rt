@@ -5,9 +5,9 @@ ghost use Prim.Native.Nat.{_+_, _≤_, _<_};
 ghost use lib.ListN.{length, getD};
 ghost use Rattle.costs.specs.Cost.{costOf, sixteenths};
 ghost use Rattle.costs.specs.Thresholds.{thresholdTable};
-ghost use Rattle.lists.specs.Counted.{each};
+ghost use Rattle.lists.specs.Counted.{part, each};
 ghost use Rattle.tables.specs.Icdf.{colorRows};
-ghost use Rattle.costs.specs.Rows.{before, chanceOf, rowAt, part, defaults, numberOk, rowOk, rowsOk};
+ghost use Rattle.costs.specs.Rows.{before, chanceOf, rowAt, defaults, numberOk, rowOk, rowsOk};
 ghost use Rattle.costs.specs.Costs.{costIn, tableCosts, tableOf, costsNumber, MakesCosts};
 
 // t[c] is the largest p with 2^c * p^16 <= 2^240. From 171 on neighbours may be equal: the last one counts.

@@ -5,11 +5,10 @@ use mathlib.Core.List.{List}
 use Prim.Native.Nat.{ℕ, _+_, _-_, _*_, _≤_, _<_}
 use lib.ListN.{length, getD}
 use lib.Ieee.{Float, nan, binary32, add, sub}
-use Rattle.lists.specs.Counted.{bit}
+use Rattle.lists.specs.Counted.{part, bit}
 use Rattle.ieee.specs.Numbers.{nat}
 use Rattle.counts.specs.Counts.{orientSent}
 use Rattle.literals.specs.Literals.{literalBits}
-use Rattle.costs.specs.Rows.{part}
 use Rattle.costs.specs.Costs.{costIn, tableCosts, costsOf}
 use Rattle.cells.specs.Cell.{ratesOf}
 use Rattle.map_search.specs.Lines.{rowCost}

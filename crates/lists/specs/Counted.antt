@@ -3,10 +3,15 @@ use Prim.Native.Nat.{ℕ, zero, suc, _+_}
 use mathlib.Core.Bool.{Bool, true, false, _&&_, _||_}
 use mathlib.Core.List.{List, [], _∷_, _++_}
 use lib.Dec.{eqb, ltb, leb}
+use lib.ListN.{take, drop}
 
 -- a ≤ x ≤ b
 abbrev pub within : ℕ → ℕ → ℕ → Bool
 within a b x = leb a x && leb x b
+
+-- `len` elements from place `at` on
+abbrev pub part : {A : Type 0} → List A → ℕ → ℕ → List A
+part l at len = take len (drop at l)
 
 -- f 0, f 1, .., f (n - 1), one behind the other
 unfoldable pub upTo : {A : Type 0} → (ℕ → List A) → ℕ → List A

@@ -3,6 +3,7 @@ use accept::Palette;
 use context::Context;
 use costs::Costs;
 use listing::Listed;
+use strip::Strip;
 ghost use mathlib.Core.Path.{_≡_};
 ghost use lib.ListN.{length};
 ghost use Rattle.counts.specs.Counts.{blockAllowed};
@@ -12,6 +13,7 @@ ghost use Rattle.accept.specs.Palette.{paletteOf};
 ghost use Rattle.listing.specs.Listing.{Lists, Predicts};
 ghost use Rattle.reading.specs.Reading.{reading, Reads};
 ghost use Rattle.search.specs.Search.{Searches};
+ghost use Rattle.strip.specs.Strip.{Strips};
 
 // Whether a block of these sides, in units of 4, may have a palette.
 pub fn block_allowed(bw4: usize, bh4: usize) -> bool
@@ -51,6 +53,24 @@ pub fn search(
         (now (map .entry)) (now (map .exit)) (now (flags .entry)) (now (flags .exit)) r ⌝ }
 {
     search::search(samples, width, height, bd, lambda, costs, map, flags)
+}
+
+// Searches up to 64 blocks, given by their width and height pairs, with samples one block after the other. Each block's map and
+// flags are written, or left untouched, at places taken in the same order, width × height and the longer side apart; or the
+// whole call is refused and nothing is written.
+pub fn search_strip(
+    sides: &[usize],
+    samples: &[f32],
+    bd: u32,
+    lambda: f32,
+    costs: &[f32],
+    map: &mut [u8],
+    flags: &mut [u8],
+) -> Strip
+    ensures { λ r. ⌜ Strips (now (sides .entry)) (now (samples .entry)) (now (costs .entry)) bd lambda
+        (now (map .entry)) (now (map .exit)) (now (flags .entry)) (now (flags .exit)) r ⌝ }
+{
+    strip::search_strip(sides, samples, bd, lambda, costs, map, flags)
 }
 
 // Lists a palette's calls from the front of `words`, or refuses it and writes nothing.

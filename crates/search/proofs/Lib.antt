@@ -8,6 +8,7 @@ pub mod Heads
 pub mod Kept
 pub mod Finds
 pub mod Passed
+pub mod Price
 pub mod Tries
 pub mod Walk
 pub mod Aside

@@ -1,14 +1,20 @@
 -- What the functions within the crate ask and answer: the steps of `search`.
 use mathlib.Core.Path.{_≡_}
+use mathlib.Core.Bool.{cond, not}
 use mathlib.Core.List.{List}
 use Prim.Native.Nat.{ℕ}
 use lib.ListN.{length, take}
 use lib.Ieee.{Float}
 use Rattle.lists.specs.Written.{front}
+use Rattle.samples.specs.Samples.{lambdaOk, costsOk}
 use Rattle.sizes.specs.declared.Block.{Block}
 use Rattle.search.specs.declared.Best.{Best}
 use Rattle.accept.specs.declared.Palette.{Palette}
 use Rattle.search.specs.Search.{Standing, faultOf, paletteBy}
+
+-- the first of 4 and 5 that applies, or 0
+abbrev pub priceFault : Float → List Float → ℕ
+priceFault lambda costs = cond (not (lambdaOk lambda)) 4 (cond (not (costsOk costs)) 5 0)
 
 -- the tests 1 to 8 have passed
 pub record Passed (samples costs : List Float) (b : Block) (cells lines : ℕ) : Type 0 where

@@ -5,17 +5,17 @@ use map_search::MapResult;
 use sizes::Block;
 use sizes::Size;
 ghost use mathlib.Core.Path.{_≡_};
-ghost use mathlib.Core.List.{map};
+ghost use mathlib.Core.List.{List, map};
 ghost use Prim.Native.Nat.{_*_, _≤_};
 ghost use lib.ListN.{length, replicate};
-ghost use lib.Ieee.{binary32};
+ghost use lib.Ieee.{Float, binary32};
 ghost use Rattle.ieee.specs.Numbers.{nat};
 ghost use Rattle.context.specs.Map.{linesOf};
 ghost use Rattle.map_search.specs.Parts.{Built};
 ghost use Rattle.sizes.specs.Known.{Known};
 ghost use Rattle.search.specs.Search.{Standing, judged, mapIn, tried, triedBoth, searched, histogramIn, foundIn, Searches};
 ghost use Rattle.search.specs.Search.{largeOk, faultOf, levelsFault};
-ghost use Rattle.search.specs.Steps.{Passed, Stands, Written};
+ghost use Rattle.search.specs.Steps.{priceFault, Passed, Stands, Written};
 
 // The best map so far, but for its cells and flags.
 pub struct Best {
@@ -36,9 +36,23 @@ fn large_ok(width: usize, height: usize) -> bool
     16 <= height
 }
 
-// The first of the numbers 1 to 8 that applies, or 0.
-pub fn fault(samples: &[f32], costs: &[f32], b: Block, cells: usize, lines: usize) -> u32
-    ensures { λ r. ⌜ r ≡ faultOf (now (samples .entry)) (now (costs .entry)) b cells lines ⌝ }
+// Number 4 or 5, or 0: of lambda and costs alone, which many blocks may share.
+pub fn price_fault(lambda: f32, costs: &[f32]) -> u32
+    ensures { λ r. ⌜ r ≡ priceFault lambda (now (costs .entry)) ⌝ }
+{
+    if !samples::lambda_ok(lambda) {
+        return 4;
+    }
+    if !samples::costs_ok(costs) {
+        return 5;
+    }
+    0
+}
+
+// The first of the numbers 1 to 8 that applies, or 0; `price` is that of 4 and 5.
+pub fn fault(samples: &[f32], b: Block, price: u32, cells: usize, lines: usize) -> u32
+    ensures { λ r. ⌜ ((costs : List Float) → price ≡ priceFault (b .lambda) costs
+        → r ≡ faultOf (now (samples .entry)) costs b cells lines) ⌝ }
 {
     if !accept::sides_ok(b.width, b.height) {
         return 1;
@@ -49,11 +63,8 @@ pub fn fault(samples: &[f32], costs: &[f32], b: Block, cells: usize, lines: usiz
     if samples.len() != b.width * b.height {
         return 3;
     }
-    if !samples::lambda_ok(b.lambda) {
-        return 4;
-    }
-    if !samples::costs_ok(costs) {
-        return 5;
+    if price != 0 {
+        return price;
     }
     if !samples::samples_ok(samples, b.bd) {
         return 6;
@@ -348,6 +359,31 @@ fn search_levels(
     search_in(samples, costs, b, h, &mut cells, &mut lines, map, flags)
 }
 
+// As `search`, for lambda and costs that were tested before: `price` is their number.
+pub fn search_priced(
+    samples: &[f32],
+    costs: &[f32],
+    b: Block,
+    price: u32,
+    map: &mut [u8],
+    flags: &mut [u8],
+) -> Palette
+    requires { ⌜ price ≡ priceFault (b .lambda) (now costs) ⌝ }
+    ensures { λ r. ⌜ Searches (now (samples .entry)) (now (costs .entry)) b
+        (now (map .entry)) (now (map .exit)) (now (flags .entry)) (now (flags .exit)) r ⌝ }
+{
+    let number = fault(samples, b, price, map.len(), flags.len());
+    if number != 0 {
+        return accept::refuse(number);
+    }
+    let h = groups::histogram_of(samples, b.bd);
+    let levels = levels_fault(h.n);
+    if levels != 0 {
+        return accept::refuse(levels);
+    }
+    search_levels(samples, costs, b, h, map, flags)
+}
+
 // Searches a block: its palette, with the map's cells and the flags written from the front; or a refusal that writes
 // nothing.
 pub fn search(
@@ -370,14 +406,5 @@ pub fn search(
         bd,
         lambda,
     };
-    let number = fault(samples, costs, b, map.len(), flags.len());
-    if number != 0 {
-        return accept::refuse(number);
-    }
-    let h = groups::histogram_of(samples, bd);
-    let levels = levels_fault(h.n);
-    if levels != 0 {
-        return accept::refuse(levels);
-    }
-    search_levels(samples, costs, b, h, map, flags)
+    search_priced(samples, costs, b, price_fault(lambda, costs), map, flags)
 }

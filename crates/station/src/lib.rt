@@ -1,5 +1,6 @@
 // The front door as C functions, for Rust and C to link. A slice is a pointer and a length. What a function returns beside
-// its number goes to a small array, which holds zeros after a refusal.
+// its number goes to an array, which holds zeros after a refusal.
+use accept::Palette;
 ghost use mathlib.Core.Path.{_≡_};
 ghost use mathlib.Core.List.{_∷_};
 ghost use Rattle.counts.specs.Counts.{blockAllowed};
@@ -10,6 +11,7 @@ ghost use Rattle.listing.specs.Listing.{Predicts};
 ghost use Rattle.station.specs.Listed.{ListsTo};
 ghost use Rattle.reading.specs.Reading.{reading};
 ghost use Rattle.station.specs.Searched.{fieldsOf, SearchesTo};
+ghost use Rattle.station.specs.Strip.{Few, rowsOf, estimatesOf, StripsTo};
 ghost use Rattle.station.specs.Read.{ReadsTo};
 ghost use lib.ListN.{length};
 ghost use Prim.Native.Nat.{_≤_};
@@ -113,6 +115,60 @@ pub extern "C" fn palette_search(
     *found = in_fields(answer.n, colors, answer.transposed);
     *bits = answer.bits;
     answer.number
+}
+
+// A row of eleven for each answer: its number, then its fields.
+fn in_rows(answers: [Palette; 64]) -> [u32; 704]
+    requires { ⌜ Few answers ⌝ }
+    ensures { λ r. ⌜ r ≡ rowsOf answers ⌝ }
+{
+    let mut rows = [0u32; 704];
+    let mut i: usize = 0;
+    while i < 64 {
+        let p = answers[i];
+        let colors = p.colors;
+        let fields = in_fields(p.n, colors, p.transposed);
+        let at = 11 * i;
+        rows[at] = p.number;
+        lists::copy_words(&fields, 10, &mut rows[at + 1..at + 11]);
+        i += 1;
+    }
+    rows
+}
+
+fn estimates_of(answers: [Palette; 64]) -> [f32; 64]
+    ensures { λ r. ⌜ r ≡ estimatesOf answers ⌝ }
+{
+    let mut bits = [0.0f32; 64];
+    let mut i: usize = 0;
+    while i < 64 {
+        let p = answers[i];
+        bits[i] = p.bits;
+        i += 1;
+    }
+    bits
+}
+
+#[no_mangle]
+pub extern "C" fn palette_strip(
+    sides: &[usize],
+    samples: &[f32],
+    bd: u32,
+    lambda: f32,
+    costs: &[f32],
+    map: &mut [u8],
+    flags: &mut [u8],
+    answers: &mut [u32; 704],
+    bits: &mut [f32; 64],
+) -> u32
+    ensures { λ r. ⌜ StripsTo (now (sides .entry)) (now (samples .entry)) (now (costs .entry)) bd lambda
+        (now (map .entry)) (now (map .exit)) (now (flags .entry)) (now (flags .exit)) (now (answers .exit)) (now (bits .exit)) r ⌝ }
+{
+    let strip = palette::search_strip(sides, samples, bd, lambda, costs, map, flags);
+    let found = strip.answers;
+    *answers = in_rows(found);
+    *bits = estimates_of(found);
+    strip.number
 }
 
 #[no_mangle]

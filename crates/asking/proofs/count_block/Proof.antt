@@ -8,8 +8,11 @@ use Rattle.search.proofs.Passed.{ready-of, countable, passed-with, levels-of-ze
 use Rattle.asking.proofs.count_block.Statement.{statement}
 use Rattle.asking.proofs.count_block.Tie as tie
 
-passed : (c : tie.Else1) → let a = c .before .before .before .before .args in Passed (now (a .samples)) (now (a .costs)) (a .b) 4096 64
-passed c = record { zero = sym (c .before .fault .ensures) ∙ c .if1 .left }
+passed : (c : tie.Else1) → let a = c .before .before .before .before .before .args in Passed (now (a .samples)) (now (a .costs)) (a .b) 4096 64
+passed c = record { zero = sym (c .before .fault .ensures _ (c .before .before .price-fault .ensures)) ∙ c .if1 .left }
+
+price-fault-requires : tie.Need-price-fault-requires
+price-fault-requires c κs = search needs
 
 fault-requires : tie.Need-fault-requires
 fault-requires c κs = search needs
@@ -38,6 +41,7 @@ pub count-block-spec : {M : Type 1} → statement M
 count-block-spec =
     tie.close
     (tie.spec
+    price-fault-requires
     fault-requires
     returns
     histogram-of-requires
