@@ -1,15 +1,16 @@
 -- The costs row after row: those of the rows before r stand in front. Assumes nothing.
 use mathlib.Core.Path.{_≡_, refl, sym, ap, subst, _∙_}
-use mathlib.Core.List.{List, _++_, append-assoc}
+use mathlib.Core.List.{List, _++_}
 use Prim.Native.Nat.{ℕ, _+_, _-_, _≤_, _<_}
 use native.Mathlib.Omega.{arith}
 use native.Mathlib.Nat.{le-of-eq}
-use lib.ListN.{length, take, length-append}
-use lib.Seq.{length-take-le, take-all, take-at}
+use lib.ListN.{length, take}
+use lib.Seq.{take-all}
 use lib.Ieee.{Float}
-use borrow.Rule.Slice.PartMut.{midOf, postOf, putMid, same-len-mid, mid-len}
+use borrow.Rule.Slice.PartMut.{midOf, putMid, same-len-mid, mid-len}
 use Rattle.lists.specs.Counted.{part, upTo, each}
 use Rattle.lists.proofs.Counted.{length-upTo, upTo-more}
+use Rattle.lists.proofs.Parts.{put-front}
 use Rattle.costs.specs.declared.Row.{Row}
 use Rattle.costs.specs.Rows.{rowAt}
 use Rattle.costs.specs.Costs.{costIn, rowCosts, tableCosts}
@@ -56,10 +57,7 @@ module _ (table : List ℕ) (costs : List Float) (r : ℕ) (b : Begun table cost
     fronts : take to (putMid from (to - from) costs new) ≡ upTo (rowCosts table) (r + 1)
     fronts =
         let c = b .count in
-        let a : length (take from costs) ≡ from = length-take-le from costs (omega (arith, inside)) in
-        let l : length (take from costs ++ new) ≡ to = omega (arith, a, long, length-append (take from costs) new) in
-        ap (take to) (sym (append-assoc (take from costs) new (postOf from (to - from) costs)))
-        ∙ take-at (take from costs ++ new) (postOf from (to - from) costs) to l
+        put-front from to costs new (omega arith) (omega (arith, inside)) long
         ∙ ap (λ x. x ++ new) held ∙ ap (λ x. upTo (rowCosts table) r ++ x) news ∙ sym (upTo-more (rowCosts table) r)
 
     pub turn : Begun table (putMid from (to - from) costs new) (r + 1)

@@ -7,3 +7,4 @@ pub mod Written
 pub mod Zeros
 pub mod Same
 pub mod Each
+pub mod Parts
