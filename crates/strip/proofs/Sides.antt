@@ -1,5 +1,5 @@
 -- Sides within 1..64, and what number 0 says of a strip. Assumes nothing.
-use mathlib.Core.Path.{_≡_}
+use mathlib.Core.Path.{_≡_, refl, _∙_}
 use mathlib.Core.Bool.{true, _&&_}
 use mathlib.Core.List.{List}
 use Prim.Native.Nat.{ℕ, _+_, _*_, _/_, _%_, _≤_, _<_, max}
@@ -11,7 +11,7 @@ use borrow.Author.Tests.{eqb-true, leb-true}
 use Rattle.lists.specs.Counted.{within, total, allIn}
 use Rattle.lists.proofs.Choice.{held, and-l, and-r}
 use Rattle.lists.proofs.Counted.{within-at, allIn-at}
-use Rattle.lists.proofs.Parts.{total-most, total-within}
+use Rattle.lists.proofs.Parts.{total-more, total-within, total-most}
 use Rattle.strip.specs.declared.Places.{Places}
 use Rattle.strip.specs.Strip.{blocksIn, blockAt, cellsAt, linesAt, countOk, stripNumber}
 use Rattle.strip.specs.Steps.{placesTo, Fits}
@@ -50,6 +50,11 @@ module _ (sides : List ℕ) (all : allIn (within 1 64) sides ≡ true) (whole : 
         cellsBefore = omega (arith, few, total-most (cellsAt sides) 4096 i (λ k l. cells-most k (omega arith)));
         linesBefore = omega (arith, few, total-most (linesAt sides) 64 i (λ k l. lines-most k (omega arith)));
       }
+
+-- the places with one block more
+pub places-more : (sides : List ℕ) (i : ℕ) (at next : Places) → at ≡ placesTo sides i
+    → next ≡ record { cells = at .cells + cellsAt sides i; lines = at .lines + linesAt sides i } → next ≡ placesTo sides (i + 1)
+places-more sides i at next a n = n ∙ rw (a, total-more (cellsAt sides) i, total-more (linesAt sides) i) refl
 
 -- what the blocks ask of sides, samples and rooms
 pub record Ready (sides : List ℕ) (samples cells lines : ℕ) : Type 0 where
