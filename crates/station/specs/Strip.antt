@@ -14,8 +14,11 @@ use Rattle.station.specs.Searched.{fieldsOf}
 abbrev pub rowOf : Palette → List ℕ
 rowOf p = p .number ∷ fieldsOf (p .n) (p .colors) (p .transposed)
 
+abbrev pub rowAt : List Palette → ℕ → List ℕ
+rowAt answers i = rowOf (getD answers i (refusedBy 0))
+
 abbrev pub rowsOf : List Palette → List ℕ
-rowsOf answers = upTo (λ i. rowOf (getD answers i (refusedBy 0))) 64
+rowsOf answers = upTo (rowAt answers) 64
 
 abbrev pub estimatesOf : List Palette → List Float
 estimatesOf answers = map (λ (p : Palette). p .bits) answers
