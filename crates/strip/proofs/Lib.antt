@@ -1,3 +1,4 @@
 pub mod At
 pub mod Sides
 pub mod Turn
+pub mod Same
