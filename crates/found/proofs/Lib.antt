@@ -5,3 +5,4 @@ pub mod Accepted
 pub mod Kept
 pub mod Listed
 pub mod MadeCosts
+pub mod Strip

@@ -31,7 +31,7 @@ searches-once samples costs b map₀ m m′ flags₀ f f′ r r′ s t =
     (s .answer ∙ sym (t .answer), s .cells ∙ rw (s .answer, ← t .answer) (sym (t .cells)), s .signs ∙ rw (s .answer, ← t .answer) (sym (t .signs)))
 
 -- each block of a strip that is not refused
-block : (sides : List ℕ) (samples costs : List Float) (bd : ℕ) (lambda : Float) (map₀ map flags₀ flags : List ℕ) (r : Strip)
+pub block : (sides : List ℕ) (samples costs : List Float) (bd : ℕ) (lambda : Float) (map₀ map flags₀ flags : List ℕ) (r : Strip)
     → Strips sides samples costs bd lambda map₀ map flags₀ flags r → r .number ≡ 0 → (i : ℕ) → i < blocksIn sides
     → Separate sides samples costs bd lambda map₀ map flags₀ flags i (getD (r .answers) i (refusedBy 0))
 block sides samples costs bd lambda map₀ map flags₀ flags r s z i h = (rw (eq-eqb (r .number) 0 z) at (s .searched)) .blocks i h
