@@ -147,10 +147,11 @@ fn search_all(
         (now (map .entry)) (now (map .exit)) (now (flags .entry)) (now (flags .exit)) (blocksIn (now (sides .entry))) r ⌝ }
 {
     let price = search::price_fault(lambda, costs);
+    let count = sides.len() / 2;
     let mut answers = [accept::refuse(0); 64];
     let mut at = Places { cells: 0, lines: 0 };
     let mut i: usize = 0;
-    while i < sides.len() / 2 {
+    while i < count {
         let width = sides[2 * i];
         let height = sides[2 * i + 1];
         let b = Block {

@@ -14,12 +14,12 @@ use Rattle.strip.proofs.search_all.Statement.{statement}
 use Rattle.strip.proofs.search_all.Tie as tie
 
 abbrev Inv-loop : tie.InvT-loop
-Inv-loop sides samples bd lambda costs map₀ flags₀ price answers₀ at₀ i₀ map flags answers at i =
+Inv-loop sides samples bd lambda costs map₀ flags₀ price count answers₀ at₀ i₀ map flags answers at i =
     (i ≤ blocksIn sides) × (length map ≡ length map₀) × (length flags ≡ length flags₀) × (length answers ≡ 64) × (at ≡ placesTo sides i)
     × Searched sides samples costs bd lambda map₀ map flags₀ flags i answers
 
 abbrev μ-loop : tie.MeasureT-loop
-μ-loop sides samples bd lambda costs map₀ flags₀ price answers₀ at₀ i₀ map flags answers at i = blocksIn sides - i
+μ-loop sides samples bd lambda costs map₀ flags₀ price count answers₀ at₀ i₀ map flags answers at i = blocksIn sides - i
 
 abbrev start : tie.In-loop Inv-loop μ-loop → tie.Start Inv-loop μ-loop
 start c = c .before .before .before .before .before .before .before .before .before
