@@ -31,6 +31,17 @@ pub(crate) struct Asked<'a> {
     pub(crate) costs: &'a [f32],
 }
 
+/// Blocks of one depth and their prices as the archive takes them.
+#[derive(Clone, Copy)]
+pub(crate) struct AskedStrip<'a> {
+    /// Width and height of each block, one pair after the other.
+    pub(crate) sides: &'a [usize],
+    pub(crate) samples: &'a [f32],
+    pub(crate) bd: u32,
+    pub(crate) lambda: f32,
+    pub(crate) costs: &'a [f32],
+}
+
 /// A list, and what it was listed with, as the archive takes them.
 #[derive(Clone, Copy)]
 pub(crate) struct Kept<'a> {
@@ -72,6 +83,23 @@ extern "C" {
         flag_room: usize,
         found: *mut [u32; 10],
         bits: *mut f32,
+    ) -> u32;
+
+    fn palette_strip(
+        sides: *const usize,
+        numbers: usize,
+        samples: *const f32,
+        count: usize,
+        bd: u32,
+        lambda: f32,
+        costs: *const f32,
+        entries: usize,
+        map: *mut u8,
+        map_room: usize,
+        flags: *mut u8,
+        flag_room: usize,
+        answers: *mut [[u32; 11]; 64],
+        bits: *mut [f32; 64],
     ) -> u32;
 
     fn palette_list(
@@ -172,6 +200,38 @@ pub(crate) fn search(
             flags.as_mut_ptr(),
             flags.len(),
             found,
+            bits,
+        )
+    })
+}
+
+/// The number; of each block `answers` becomes its number, n, eight colours and orientation, `bits`
+/// the estimate.
+pub(crate) fn strip(
+    asked: AskedStrip<'_>,
+    map: &mut [u8],
+    flags: &mut [u8],
+    answers: &mut [[u32; 11]; 64],
+    bits: &mut [f32; 64],
+) -> u32 {
+    // SAFETY: each pointer and length is of one slice; the four mutable borrows do not overlap,
+    // and the function writes within their lengths only. 64 times eleven numbers in a row are the
+    // 704 that it takes.
+    in_default(|| unsafe {
+        palette_strip(
+            asked.sides.as_ptr(),
+            asked.sides.len(),
+            asked.samples.as_ptr(),
+            asked.samples.len(),
+            asked.bd,
+            asked.lambda,
+            asked.costs.as_ptr(),
+            asked.costs.len(),
+            map.as_mut_ptr(),
+            map.len(),
+            flags.as_mut_ptr(),
+            flags.len(),
+            answers,
             bits,
         )
     })

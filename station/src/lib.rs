@@ -38,7 +38,8 @@
 //!
 //! [`search`], [`list`], [`read`] and [`pred`] allocate what they hand back. A station that goes
 //! through many blocks lends its own buffers to [`search_into`], [`list_into`], [`read_into`] and
-//! [`pred_into`]; then nothing is allocated.
+//! [`pred_into`]; then nothing is allocated. Small blocks are best searched many at once, up to 64
+//! in a strip: [`search_strip`], or [`search_strip_into`] with lent buffers.
 
 #![deny(missing_docs)]
 #![deny(unsafe_code)]
@@ -59,12 +60,14 @@ mod refusal;
 pub mod report;
 mod search;
 pub mod sheet;
+mod strip;
 
 pub use calls::{replay, Call, Calls, Coder, UnknownWord};
 pub use context::{context, Context};
 pub use costs::Costs;
 pub use limits::{
-    word_room, ADAPTED, COSTS, MAX_CACHE, MAX_CELLS, MAX_COLORS, MAX_LINES, MAX_SIDE, MAX_WORDS,
+    word_room, ADAPTED, COSTS, MAX_CACHE, MAX_CELLS, MAX_COLORS, MAX_LINES, MAX_SIDE, MAX_STRIP,
+    MAX_WORDS,
 };
 pub use listing::{list, list_into, Listing, ListingView};
 pub use palette::{Colors, Palette, PaletteView};
@@ -72,6 +75,7 @@ pub use pred::{pred, pred_into};
 pub use read::{read, read_into};
 pub use refusal::Refusal;
 pub use search::{block_allowed, search, search_into, Block};
+pub use strip::{search_strip, search_strip_into, Answers, Blocks};
 
 // The README's examples are tested too.
 #[cfg(doctest)]

@@ -1,4 +1,4 @@
-//! Document 01's limits, for buffers that are made once.
+//! The documents' limits, for buffers that are made once.
 
 /// The longest side of a block.
 ///
@@ -22,6 +22,13 @@ pub const MAX_CELLS: usize = MAX_SIDE * MAX_SIDE;
 /// assert_eq!(palette_station::MAX_LINES, palette_station::MAX_SIDE);
 /// ```
 pub const MAX_LINES: usize = MAX_SIDE;
+
+/// The most blocks of a strip.
+///
+/// ```
+/// assert_eq!(palette_station::MAX_STRIP, 64);
+/// ```
+pub const MAX_STRIP: usize = 64;
 
 /// The most colours of a palette.
 ///

@@ -71,7 +71,7 @@ refusals! {
     WORD_ROOM = 16: "word room too small for the list"
     TEXT = 17: "listing program: text not in its form"
     CONTEXT = 18: "no context there: cell (0,0), x not below the stride, n not 2..8, or a used neighbour past the map's end or not below n"
-    BLOCK_COUNT = 19: "more than 9,999 palettes in a block report"
+    BLOCK_COUNT = 19: "no block, more than 64 or half a pair of sides in a strip, or more than 9,999 palettes in a block report"
     LIST_END = 20: "the list ends where a word is due"
     WORD = 21: "a word whose kind or first field is not the one due, or whose second is beyond its range"
     WORDS_LEFT = 22: "words left over behind the list"

@@ -6,9 +6,10 @@
 mod common;
 
 use common::rows::{costs_of, drawn_table, DEFAULT_TABLE};
-use common::{block, halves, without_estimate, Drawn, Random};
+use common::{block, halves, without_estimate, Drawn, Lined, Random};
 use palette_station::{
-    block_allowed, context, list, pred, read, search, Block, Costs, Listing, Palette, Refusal,
+    block_allowed, context, list, pred, read, search, search_strip, search_strip_into, Block,
+    Costs, Listing, Palette, Refusal,
 };
 use std::arch::asm;
 
@@ -229,6 +230,52 @@ fn searches() {
         }
     }
     assert!(found > 500, "only {found} palettes found");
+}
+
+/// The blocks of cases in strips, each with lambda and costs of its first one: what strips answer
+/// is what the blocks have alone in the default environment.
+#[test]
+fn strips() {
+    let mut found = 0;
+    for (place, strip) in cases(11).chunks(20).enumerate() {
+        let blocks: Vec<Block> = strip.iter().map(|case| case.drawn.block()).collect();
+        let (lambda, costs) = (strip[0].lambda, &strip[0].costs);
+        let alone = blocks.iter().map(|block| search(block, lambda, costs));
+        let due: Vec<_> = alone.map(bitwise).collect();
+        found += due.iter().flatten().count();
+        for (name, mode) in MODES {
+            let answers = under(mode, || search_strip(&blocks, lambda, costs)).unwrap();
+            let answers: Vec<_> = answers.into_iter().map(bitwise).collect();
+            assert_eq!(answers, due, "strip {place}, {name}");
+        }
+    }
+    assert!(found > 400, "only {found} palettes found");
+}
+
+/// Between the switches stands the call alone, and the caller's environment is put back also where
+/// the strip is refused as a whole.
+#[test]
+fn strips_with_lent_buffers() {
+    let smallest = block(&SMALLEST, 16, 1);
+    let lined = Lined::of(&[block(&[7.0], 1, 1), smallest, smallest]);
+    let (mut map, mut flags) = ([0; 33], [0; 33]);
+    for (name, mode) in MODES {
+        let blocks = lined.blocks();
+        let answers = under(mode, || {
+            search_strip_into(&blocks, 0.0, &FREE, &mut map, &mut flags)
+        });
+        let mut answers = answers.unwrap();
+        assert_eq!(answers.next(), Some(Err(Refusal::SMALL)), "{name}");
+        for palette in answers {
+            let palette = palette.unwrap();
+            assert_eq!(palette.colors[..], [16, 18, 19], "{name}");
+            assert_eq!(palette.bits.to_bits(), 69f32.to_bits(), "{name}");
+        }
+        let refused = under(mode, || {
+            search_strip_into(&blocks, 0.0, &FREE, &mut map[1..], &mut flags)
+        });
+        assert_eq!(refused.err(), Some(Refusal::ROOM), "{name}");
+    }
 }
 
 /// The list of a palette, and the bits of its prediction.

@@ -5,8 +5,8 @@ mod common;
 use common::{block, counting, halves};
 use palette_station::report::Report;
 use palette_station::{
-    context, list, list_into, pred_into, read, read_into, search, search_into, Block, Colors,
-    Costs, Palette, Refusal,
+    context, list, list_into, pred_into, read, read_into, search, search_into, search_strip,
+    search_strip_into, Block, Blocks, Colors, Costs, Palette, Refusal,
 };
 
 fn search_number(change: impl FnOnce(&mut Block, &mut f32, &mut [f32; 301])) -> u32 {
@@ -42,6 +42,33 @@ fn search_1_to_10() {
         search(&block(&ramp, 32, 2), 60.0, &costs),
         Err(Refusal::MANY_LEVELS)
     );
+}
+
+/// The number of a strip as a whole; its blocks have the search's own.
+fn strip_number(change: impl FnOnce(&mut Blocks, &mut usize)) -> u32 {
+    let samples = halves(64);
+    let mut blocks = Blocks {
+        sides: &[[16, 2]; 2],
+        samples: &samples,
+        bd: 8,
+    };
+    let (mut map, mut flags, mut room) = ([0; 64], [0; 32], 64);
+    change(&mut blocks, &mut room);
+    let costs = Costs::default();
+    let answers = search_strip_into(&blocks, 60.0, &costs, &mut map[..room], &mut flags);
+    answers.map_or_else(Refusal::number, |_| 0)
+}
+
+#[test]
+fn strip_1_3_7_and_19() {
+    assert_eq!(strip_number(|_, _| {}), 0);
+    assert_eq!(strip_number(|blocks, _| blocks.sides = &[[16, 65]; 2]), 1);
+    assert_eq!(strip_number(|blocks, _| blocks.sides = &[[16, 2]; 3]), 3);
+    assert_eq!(strip_number(|_, room| *room = 63), 7);
+    assert_eq!(strip_number(|blocks, _| blocks.sides = &[[1, 1]; 65]), 19);
+    assert_eq!(strip_number(|blocks, _| blocks.sides = &[]), 19);
+    let none = search_strip(&[], 60.0, &Costs::default());
+    assert_eq!(none, Err(Refusal::BLOCK_COUNT));
 }
 
 fn list_number(cache: &[u16], change: impl FnOnce(&mut Palette)) -> u32 {
@@ -108,10 +135,12 @@ fn costs_24_and_25() {
 
 /// In document 02's words. Two meanings exchanged would still be of their own each.
 #[test]
-fn meanings_of_20_to_25() {
+fn meanings_of_19_to_25() {
     let shown = |number| Refusal::from_number(number).unwrap().to_string();
-    let shown = [20, 21, 22, 23, 24, 25].map(shown);
+    let shown = [19, 20, 21, 22, 23, 24, 25].map(shown);
     let due = [
+        "refused by 19: no block, more than 64 or half a pair of sides in a strip, \
+         or more than 9,999 palettes in a block report",
         "refused by 20: the list ends where a word is due",
         "refused by 21: a word whose kind or first field is not the one due, \
          or whose second is beyond its range",
@@ -138,9 +167,8 @@ fn text_17() {
     assert_eq!(fields, [0, Refusal::TEXT.number()]);
 }
 
-/// Only a report gives 19.
 #[test]
-fn block_count_19() {
+fn report_19() {
     let mut report = Report::new();
     (0..9999).for_each(|_| report.push(Err(Refusal::SMALL)));
     assert_eq!(report.lines().last(), Some(Err(Refusal::SMALL)));

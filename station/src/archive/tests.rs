@@ -1,7 +1,7 @@
 //! What the safe functions cannot ask: lengths that their types rule out, and the returned
 //! fields after a refusal.
 
-use super::{Asked, Kept, Lent};
+use super::{Asked, AskedStrip, Kept, Lent};
 
 const SAMPLES: [f32; 16] = [
     10.0, 10.0, 10.0, 10.0, 10.0, 10.0, 10.0, 10.0, 20.0, 20.0, 20.0, 20.0, 20.0, 20.0, 20.0, 20.0,
@@ -43,6 +43,159 @@ fn costs_of_another_length_are_5() {
         assert_eq!(number, 5, "{length} costs");
         assert_eq!((map, flags), ([0xee; 16], [0xee; 16]));
         assert_eq!((found, bits.to_bits()), ([0; 10], 0));
+    }
+}
+
+/// The worked block twice, and between them one of one level.
+const STRIP: [f32; 48] = {
+    let mut samples = [7.0; 48];
+    let mut cell = 0;
+    while cell < 16 {
+        (samples[cell], samples[32 + cell]) = (SAMPLES[cell], SAMPLES[cell]);
+        cell += 1;
+    }
+    samples
+};
+
+fn asked_strip(costs: &[f32]) -> AskedStrip<'_> {
+    AskedStrip {
+        sides: &[16, 1, 16, 1, 16, 1],
+        samples: &STRIP,
+        bd: 8,
+        lambda: 0.0,
+        costs,
+    }
+}
+
+/// All that a strip returns, from buffers and fields filled beforehand.
+struct Strip {
+    number: u32,
+    map: [u8; 49],
+    flags: [u8; 49],
+    answers: [[u32; 11]; 64],
+    bits: [f32; 64],
+}
+
+fn strip(asked: AskedStrip<'_>, cells: usize) -> Strip {
+    let (mut map, mut flags) = ([0xee; 49], [0xee; 49]);
+    let (mut answers, mut bits) = ([[77; 11]; 64], [7.5; 64]);
+    let map_room = &mut map[..cells];
+    let number = super::strip(asked, map_room, &mut flags, &mut answers, &mut bits);
+    Strip {
+        number,
+        map,
+        flags,
+        answers,
+        bits,
+    }
+}
+
+#[test]
+fn the_worked_block_twice_in_a_strip() {
+    let strip = strip(asked_strip(&[0.0; 301]), 49);
+    assert_eq!(strip.number, 0);
+    let found = [0, 2, 10, 20, 0, 0, 0, 0, 0, 0, 0];
+    let one_level = [9, 0, 0, 0, 0, 0, 0, 0, 0, 0, 0];
+    assert_eq!(strip.answers[..3], [found, one_level, found]);
+    assert_eq!(strip.bits[..3], [51.0, 0.0, 51.0]);
+    assert_eq!(strip.answers[3..], [[0; 11]; 61]);
+    assert_eq!(strip.bits.map(f32::to_bits)[3..], [0; 61]);
+    let map = [0, 0, 0, 0, 0, 0, 0, 0, 1, 1, 1, 1, 1, 1, 1, 1];
+    assert_eq!((&strip.map[..16], &strip.map[32..48]), (&map[..], &map[..]));
+    assert_eq!((&strip.map[16..32], strip.map[48]), (&[0xee; 16][..], 0xee));
+    let mut flags = [0xee; 49];
+    (flags[0], flags[32]) = (0, 0);
+    assert_eq!(strip.flags, flags);
+}
+
+#[test]
+fn costs_of_another_length_are_each_blocks_own_5() {
+    for length in [0, 300, 302] {
+        let strip = strip(asked_strip(&vec![0.0; length]), 49);
+        assert_eq!(strip.number, 0, "{length} costs");
+        let refused = [5, 0, 0, 0, 0, 0, 0, 0, 0, 0, 0];
+        assert_eq!(strip.answers[..3], [refused; 3]);
+        assert_eq!(strip.answers[3..], [[0; 11]; 61]);
+        assert_eq!(strip.bits.map(f32::to_bits), [0; 64]);
+        assert_eq!((strip.map, strip.flags), ([0xee; 49], [0xee; 49]));
+    }
+}
+
+/// Half a pair of sides goes ahead of a side that is out of range.
+#[test]
+fn a_refused_strip_is_all_zero() {
+    let costs = [0.0; 301];
+    let whole = asked_strip(&costs);
+    let sides = [16, 1, 16, 1, 16];
+    let refused = [
+        (
+            19,
+            49,
+            AskedStrip {
+                sides: &[],
+                ..whole
+            },
+        ),
+        (
+            19,
+            49,
+            AskedStrip {
+                sides: &[0],
+                ..whole
+            },
+        ),
+        (
+            19,
+            49,
+            AskedStrip {
+                sides: &sides,
+                ..whole
+            },
+        ),
+        (
+            19,
+            49,
+            AskedStrip {
+                sides: &[1; 129],
+                ..whole
+            },
+        ),
+        (
+            19,
+            49,
+            AskedStrip {
+                sides: &[1; 130],
+                ..whole
+            },
+        ),
+        (
+            1,
+            49,
+            AskedStrip {
+                sides: &[48, 1, 1, 0],
+                ..whole
+            },
+        ),
+        (
+            3,
+            49,
+            AskedStrip {
+                sides: &sides[..4],
+                ..whole
+            },
+        ),
+        (7, 47, whole),
+    ];
+    for (due, cells, asked) in refused {
+        let strip = strip(asked, cells);
+        assert_eq!(strip.number, due);
+        assert_eq!(
+            (strip.map, strip.flags),
+            ([0xee; 49], [0xee; 49]),
+            "number {due}"
+        );
+        assert_eq!(strip.answers, [[0; 11]; 64], "number {due}");
+        assert_eq!(strip.bits.map(f32::to_bits), [0; 64], "number {due}");
     }
 }
 

@@ -1,6 +1,7 @@
 //! What a sheet's form holds of its blocks, packed: a large sheet has millions of them.
 
 use super::Area;
+use crate::strip::front;
 use crate::Refusal;
 
 /// What a sheet's form holds of one block.
@@ -92,11 +93,4 @@ impl Parts {
             (area, part)
         })
     }
-}
-
-/// Takes so many from the front.
-fn front<'a, T>(rest: &mut &'a [T], count: usize) -> &'a [T] {
-    let (front, behind) = rest.split_at(count);
-    *rest = behind;
-    front
 }

@@ -6,7 +6,7 @@ pub mod kept;
 pub mod page;
 pub mod rows;
 
-use palette_station::{Block, Colors, Palette};
+use palette_station::{Block, Blocks, Colors, Palette};
 use std::env;
 use std::io::Write;
 use std::path::{Path, PathBuf};
@@ -182,5 +182,47 @@ impl Drawn {
             height: self.height,
             bd: self.bd,
         }
+    }
+}
+
+/// Blocks with their samples one block after the other, at the depth of 8 unless it is set.
+pub struct Lined {
+    pub sides: Vec<[usize; 2]>,
+    pub samples: Vec<f32>,
+    pub bd: u32,
+}
+
+impl Lined {
+    pub fn of(blocks: &[Block]) -> Lined {
+        let mut lined = Lined {
+            sides: Vec::new(),
+            samples: Vec::new(),
+            bd: 8,
+        };
+        for block in blocks {
+            lined.sides.push([block.width, block.height]);
+            lined.samples.extend(block.samples);
+        }
+        lined
+    }
+
+    pub fn blocks(&self) -> Blocks<'_> {
+        Blocks {
+            sides: &self.sides,
+            samples: &self.samples,
+            bd: self.bd,
+        }
+    }
+
+    /// The room that all maps take together.
+    pub fn cells(&self) -> usize {
+        let cells = self.sides.iter().map(|[width, height]| width * height);
+        cells.sum()
+    }
+
+    /// The room that all flags take together.
+    pub fn lines(&self) -> usize {
+        let lines = self.sides.iter().map(|[width, height]| width.max(height));
+        lines.sum()
     }
 }
