@@ -3,7 +3,7 @@
  *
  * The archive is written by `rt staticlib station` at the repository's top, to target/staticlib.
  * Link it with the C library only:  cc station.c -Iinclude target/staticlib/libstation.a
- * Where palette_search_default_env is used, add -lm.
+ * Where palette_search_default_env or palette_strip_default_env is used, add -lm.
  *
  * Every function is proved to meet its contract for all values of its arguments, as long as
  *  - a pointer is not NULL, not even where the length beside it is 0,
@@ -12,17 +12,17 @@
  *  - the calling thread's floating-point environment is the default one, C's FE_DFL_ENV: rounding
  *    to nearest, neither flush-to-zero nor denormals-are-zero, exceptions masked.
  *
- * The last matters for palette_search alone. palette_pred makes floats of whole numbers below
- * 4096, and palette_costs of sixteenths from 0 to 15, which is exact in every environment; the
- * others have none. A program starts in the default environment unless it is linked with
- * -ffast-math (or -Ofast, or -funsafe-math-optimizations): that sets flush-to-zero and
+ * The last matters for palette_search and palette_strip alone. palette_pred makes floats of whole
+ * numbers below 4096, and palette_costs of sixteenths from 0 to 15, which is exact in every
+ * environment; the others have none. A program starts in the default environment unless it is
+ * linked with -ffast-math (or -Ofast, or -funsafe-math-optimizations): that sets flush-to-zero and
  * denormals-are-zero, and the search may then find another palette. fesetround and feenableexcept
  * leave it too, and so may a library. Whoever cannot rule that out calls
- * palette_search_default_env.
+ * palette_search_default_env and palette_strip_default_env.
  *
  * A function that returns uint32_t returns the documents' number: 0 if accepted, else the first
  * of its tests that fails. After a refusal every lent buffer (map, flags, words, values) is as it
- * was, and every other result (context, costs, found, bits, listed, read) is 0 throughout.
+ * was, and every other result (context, costs, found, answers, bits, listed, read) is 0 throughout.
  *
  * All functions may be called from several threads at once: they share nothing.
  */
@@ -38,10 +38,11 @@
 extern "C" {
 #endif
 
-/* Document 01's limits, for buffers that are made once. */
+/* The documents' limits, for buffers that are made once. */
 #define PALETTE_MAX_SIDE 64
 #define PALETTE_MAX_CELLS 4096
 #define PALETTE_MAX_LINES 64
+#define PALETTE_MAX_STRIP 64
 #define PALETTE_MAX_COLORS 8
 #define PALETTE_MAX_CACHE 64
 #define PALETTE_MAX_WORDS 4234
@@ -50,7 +51,7 @@ extern "C" {
 
 /*
  * Document 01's numbers, and from 19 on document 02's. 17 is given only by programs that read a
- * text, 19 only by a block report.
+ * text, 19 by a strip and by a block report.
  */
 #define PALETTE_ACCEPTED 0
 #define PALETTE_SIDE 1          /* a side outside 1..64 */
@@ -71,7 +72,8 @@ extern "C" {
 #define PALETTE_WORD_ROOM 16    /* word room too small for the list */
 #define PALETTE_TEXT 17         /* listing program: text not in its form */
 #define PALETTE_NO_CONTEXT 18   /* no context at that cell */
-#define PALETTE_BLOCK_COUNT 19  /* more than 9,999 palettes in a block report */
+#define PALETTE_BLOCK_COUNT 19  /* strip: no block, more than 64, or half a pair of sides; block
+                                   report: more than 9,999 palettes */
 #define PALETTE_LIST_END 20     /* the list ends where a word is due */
 #define PALETTE_WORD 21         /* kind or first field not the one due, or second beyond range */
 #define PALETTE_WORDS_LEFT 22   /* words left over behind the list */
@@ -146,6 +148,43 @@ static inline uint32_t palette_search_default_env(
     fesetenv(FE_DFL_ENV);
     number = palette_search(samples, count, width, height, bd, lambda, costs, entries, map,
                             map_room, flags, flag_room, found, bits);
+    fesetenv(&caller);
+    return number;
+}
+
+/*
+ * Finds the palettes of a strip: up to 64 blocks of one depth. `sides` holds width and height of
+ * each block, `numbers` of them, which is twice the count of blocks; `samples` holds the blocks'
+ * samples one block after the other, `count` in all. bd, lambda and costs are as palette_search
+ * takes them, for all blocks. A block's map and flags have their places behind those of the block
+ * before it: width x height in `map`, and the longer side in `flags`. The rooms are for all blocks.
+ *
+ * Returns 0, or for the strip as a whole 19, 1 if any side is outside 1..64, 3 if `count` is not the
+ * sum of width x height, 7 if a room is below the sum of its places, tested in this order. Writes
+ * `answers`, eleven numbers a block: its own number, and n, eight colours and orientation as
+ * palette_search has them in `found`; and `bits`, its estimate. Both are 0 past the last block.
+ *
+ * Where it returns 0, each block has the number, the fields and in its places the map and the flags
+ * that palette_search gives it alone, with its samples and exactly its places as rooms. So a fault
+ * of bd, lambda or costs is every block's own number. A refused block has 0 in all other fields, its
+ * places are as they were, and the other blocks go on.
+ */
+uint32_t palette_strip(const size_t *sides, size_t numbers, const float *samples, size_t count,
+                       uint32_t bd, float lambda, const float *costs, size_t entries,
+                       uint8_t *map, size_t map_room, uint8_t *flags, size_t flag_room,
+                       uint32_t answers[704], float bits[64]);
+
+/* palette_strip in the default environment, as palette_search_default_env is palette_search. */
+static inline uint32_t palette_strip_default_env(
+    const size_t *sides, size_t numbers, const float *samples, size_t count, uint32_t bd,
+    float lambda, const float *costs, size_t entries, uint8_t *map, size_t map_room,
+    uint8_t *flags, size_t flag_room, uint32_t answers[704], float bits[64]) {
+    fenv_t caller;
+    uint32_t number;
+    fegetenv(&caller);
+    fesetenv(FE_DFL_ENV);
+    number = palette_strip(sides, numbers, samples, count, bd, lambda, costs, entries, map,
+                           map_room, flags, flag_room, answers, bits);
     fesetenv(&caller);
     return number;
 }

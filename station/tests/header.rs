@@ -99,17 +99,31 @@ fn every_export_is_declared_and_nothing_else() {
 
 /// Whatever has a body is `static inline`, so that two files of a program can include the header.
 #[test]
-fn one_function_is_defined_inline() {
+fn two_functions_are_defined_inline() {
     let (declarations, inlines) = parts();
     assert!(!declarations.replace("extern \"C\" {", "").contains('{'));
-    let [inline] = &inlines[..] else {
-        panic!("{} functions are defined inline", inlines.len());
+    let of = ["palette_search", "palette_strip"];
+    assert_eq!(inlines.len(), of.len());
+    for (name, inline) in of.into_iter().zip(&inlines) {
+        let its_own = format!("{name}_default_env");
+        assert_eq!(functions(inline), [&its_own, name]);
+        let theirs = parameters(&declarations, name);
+        assert!(theirs.is_some(), "{name}");
+        assert_eq!(parameters(inline, &its_own), theirs);
+        let lent = handed_over(&theirs.unwrap_or_default());
+        assert_eq!(parameters(inline, &format!("= {name}")), Some(lent));
+    }
+}
+
+/// The names of parameters, as a call that hands them on has them.
+fn handed_over(parameters: &str) -> String {
+    let name = |parameter: &str| {
+        let (declared, _) = parameter.split_once('[').unwrap_or((parameter, ""));
+        let last = declared.rsplit([' ', '*']).next();
+        last.unwrap_or_default().to_string()
     };
-    let calls = ["palette_search_default_env", "palette_search"];
-    assert_eq!(functions(inline), calls);
-    let theirs = parameters(&declarations, "palette_search");
-    assert!(theirs.is_some());
-    assert_eq!(parameters(inline, "palette_search_default_env"), theirs);
+    let names: Vec<String> = parameters.split(", ").map(name).collect();
+    names.join(", ")
 }
 
 /// So the functions allocate nothing, and calls from several threads share nothing.
@@ -171,7 +185,7 @@ fn none_wrong(compiler: &str, words: &[&str], source: &str, libraries: &[&str]) 
     assert!(right, "{said}{}", output.status);
 }
 
-/// Without -lm, which only the inline function needs.
+/// Without -lm, which only the inline functions need.
 #[test]
 fn a_c_program_calls_them_all() {
     none_wrong("cc", &["-std=c99"], "exports.c", &[]);
@@ -205,6 +219,7 @@ fn limits_are_those_of_the_package() {
         ("PALETTE_MAX_SIDE", station::MAX_SIDE),
         ("PALETTE_MAX_CELLS", station::MAX_CELLS),
         ("PALETTE_MAX_LINES", station::MAX_LINES),
+        ("PALETTE_MAX_STRIP", station::MAX_STRIP),
         ("PALETTE_MAX_COLORS", station::MAX_COLORS),
         ("PALETTE_MAX_CACHE", station::MAX_CACHE),
         ("PALETTE_MAX_WORDS", station::MAX_WORDS),

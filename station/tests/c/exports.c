@@ -124,6 +124,39 @@ static void search(void) {
     CHECK(flags[0] == 0 && filled(flags + 1, 16));
 }
 
+/* That block, one of a single level, and the first on its side, with room for a place more each. */
+static void strip(void) {
+    static const size_t sides[7] = {16, 1, 2, 16, 1, 16, 1};
+    static const uint32_t due[3][11] = {
+        {0, 2, 10, 20, 0, 0, 0, 0, 0, 0, 0},
+        {PALETTE_ONE_LEVEL, 0, 0, 0, 0, 0, 0, 0, 0, 0, 0},
+        {0, 2, 10, 20, 0, 0, 0, 0, 0, 0, 0},
+    };
+    static const uint8_t last[16] = {1, 2, 2, 2, 2, 2, 2, 2, 1, 2, 2, 2, 2, 2, 2, 2};
+    float samples[64], costs[PALETTE_COSTS] = {0}, bits[PALETTE_MAX_STRIP];
+    uint8_t map[65], flags[49];
+    uint32_t answers[11 * PALETTE_MAX_STRIP];
+    for (int i = 0; i < 64; i++) samples[i] = i >= 16 && i < 48 ? 7 : i % 16 < 8 ? 10 : 20;
+    fill(map, 65), fill(flags, 49), fill(answers, sizeof answers), fill(bits, sizeof bits);
+    CHECK(palette_strip(sides, 7, samples, 64, 8, 0, costs, 301, map, 64, flags, 48, answers,
+                        bits) == PALETTE_BLOCK_COUNT);
+    CHECK(zeros(answers, sizeof answers) && zeros(bits, sizeof bits));
+    CHECK(palette_strip(sides, 6, samples, 63, 8, 0, costs, 301, map, 64, flags, 48, answers,
+                        bits) == PALETTE_SAMPLE_COUNT);
+    CHECK(palette_strip(sides, 6, samples, 64, 8, 0, costs, 301, map, 64, flags, 47, answers,
+                        bits) == PALETTE_ROOM);
+    CHECK(zeros(answers, sizeof answers) && zeros(bits, sizeof bits));
+    CHECK(filled(map, 65) && filled(flags, 49));
+    CHECK(palette_strip(sides, 6, samples, 64, 8, 0, costs, 301, map, 64, flags, 48, answers,
+                        bits) == PALETTE_ACCEPTED);
+    CHECK(memcmp(answers, due, sizeof due) == 0 && bits[0] == 51 && bits[1] == 0 && bits[2] == 51);
+    CHECK(zeros(answers + 33, sizeof answers - sizeof due) && zeros(bits + 3, 61 * sizeof *bits));
+    CHECK(map[0] == 0 && map[7] == 0 && map[8] == 1 && map[15] == 1 && filled(map + 16, 32));
+    CHECK(map[48] == 0 && map[55] == 0 && map[56] == 1 && map[63] == 1 && map[64] == 0xee);
+    CHECK(flags[0] == 0 && filled(flags + 1, 31) && memcmp(flags + 32, last, 16) == 0);
+    CHECK(flags[48] == 0xee);
+}
+
 static const uint16_t colors[8] = {16, 235};
 static const uint8_t cells[8] = {0, 0, 0, 0, 0, 0, 1, 1};
 static const uint8_t lines[2] = {1, 0};
@@ -207,6 +240,7 @@ int main(void) {
     costs();
     search_with_made_costs();
     search();
+    strip();
     list();
     read_back();
     not_listed();

@@ -1,7 +1,7 @@
 /*
  * The search in a program that is linked with -ffast-math, so that subnormal numbers are taken
- * for 0: by itself, and in the default environment; and the making of costs by itself. It compiles
- * as C and as C++.
+ * for 0: by itself, and in the default environment, of a block and of a strip; and the making of
+ * costs by itself. It compiles as C and as C++.
  *
  * The compiler may reckon without subnormal numbers here, so they are made and compared by bits.
  */
@@ -59,6 +59,25 @@ static searched smallest(void) {
 static uint32_t number(search_function *search, searched *s) {
     return search(s->samples, 16 * s->height, 16, s->height, 8, s->lambda, s->costs,
                   PALETTE_COSTS, s->map, 32, s->flags, 16, s->found, &s->bits);
+}
+
+/* The block as the second of a strip, behind one of a single sample. */
+static uint32_t in_strip(const float *samples, size_t count, size_t width, size_t height,
+                         uint32_t bd, float lambda, const float *costs, size_t entries,
+                         uint8_t *map, size_t map_room, uint8_t *flags, size_t flag_room,
+                         uint32_t found[10], float *bits) {
+    const size_t sides[4] = {1, 1, width, height};
+    float both[1 + 32], estimates[PALETTE_MAX_STRIP];
+    uint8_t maps[1 + 32], lines[1 + 16];
+    uint32_t answers[11 * PALETTE_MAX_STRIP];
+    memset(both, 0, sizeof both), memset(maps, 0, sizeof maps), memset(lines, 0, sizeof lines);
+    memcpy(both + 1, samples, count * sizeof *samples);
+    CHECK(palette_strip_default_env(sides, 4, both, 1 + count, bd, lambda, costs, entries, maps,
+                                    1 + map_room, lines, 1 + flag_room, answers, estimates) ==
+          PALETTE_ACCEPTED);
+    memcpy(map, maps + 1, map_room), memcpy(flags, lines + 1, flag_room);
+    memcpy(found, answers + 12, 10 * sizeof *found), memcpy(bits, estimates + 1, sizeof *bits);
+    return answers[11];
 }
 
 /* Three colours, and an estimate of 69. */
@@ -133,20 +152,25 @@ static void same_costs(void) {
 }
 
 /* Whether the whole register is afterwards as it was: the exceptions noted in it too. */
-static bool env_kept(void) {
+static bool env_kept(search_function *search) {
     searched block = smallest();
     const unsigned before = _mm_getcsr();
-    number(palette_search_default_env, &block);
+    number(search, &block);
     return _mm_getcsr() == before;
 }
 
+static void right_in_default_env(search_function *search) {
+    CHECK(right(search));
+    CHECK(least_sample(search) == PALETTE_SAMPLE);
+    CHECK(least_cost(search) == PALETTE_COST_TABLE);
+    CHECK(least_lambda(search) == PALETTE_LAMBDA);
+    CHECK(tiny_cost_counts(search));
+    CHECK(env_kept(search));
+}
+
 static void in_default_env(void) {
-    CHECK(right(palette_search_default_env));
-    CHECK(least_sample(palette_search_default_env) == PALETTE_SAMPLE);
-    CHECK(least_cost(palette_search_default_env) == PALETTE_COST_TABLE);
-    CHECK(least_lambda(palette_search_default_env) == PALETTE_LAMBDA);
-    CHECK(tiny_cost_counts(palette_search_default_env));
-    CHECK(env_kept());
+    right_in_default_env(palette_search_default_env);
+    right_in_default_env(in_strip);
 }
 
 static void with_every_rounding(void) {
