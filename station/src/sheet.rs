@@ -75,6 +75,7 @@ mod levels;
 mod parts;
 mod reading;
 mod searching;
+mod shares;
 
 pub use area::Area;
 pub use form::Form;

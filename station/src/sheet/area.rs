@@ -1,5 +1,7 @@
 //! How a sheet is cut.
 
+use std::ops::Range;
+
 /// A block's place on its sheet.
 ///
 /// ```
@@ -32,17 +34,18 @@ impl Area {
 /// The blocks of a sheet, row by row.
 pub(super) fn blocks(width: usize, height: usize, side: usize) -> impl Iterator<Item = Area> {
     let tops = (0..height).step_by(side);
-    tops.flat_map(move |y| row(width, height, side, y))
+    tops.flat_map(move |y| in_row((width, height), side, y, 0..width))
 }
 
-/// The row of blocks whose first sample row is `y`.
-pub(super) fn row(
-    width: usize,
-    height: usize,
+/// The blocks of a row, whose first sample row is `y`, that begin in these columns. The first
+/// column is a block's.
+pub(super) fn in_row(
+    (width, height): (usize, usize),
     side: usize,
     y: usize,
-) -> impl Iterator<Item = Area> {
-    (0..width).step_by(side).map(move |x| Area {
+    columns: Range<usize>,
+) -> impl Iterator<Item = Area> + Clone {
+    columns.step_by(side).map(move |x| Area {
         x,
         y,
         width: side.min(width - x),

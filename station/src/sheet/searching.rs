@@ -1,10 +1,11 @@
-//! The search of a sheet: rows of blocks side by side in threads, put together in order.
+//! The search of a sheet: shares of it side by side in threads, put together in order.
 
 use super::parts::Parts;
-use super::{area, Area, Form, Settings, Sheet};
-use crate::limits::{MAX_CELLS, MAX_LINES, MAX_SIDE, MAX_WORDS};
+use super::shares::Shares;
+use super::{Area, Form, Settings, Sheet};
+use crate::limits::{MAX_SIDE, MAX_WORDS};
 use crate::report::{Listed, Report};
-use crate::{list_into, search_into, Block, Refusal};
+use crate::{list_into, search_strip_into, Blocks, PaletteView, Refusal};
 use std::collections::BTreeMap;
 use std::error::Error;
 use std::fmt::{self, Display, Formatter};
@@ -67,24 +68,24 @@ impl Display for Failure {
 
 impl Error for Failure {}
 
-/// A row of blocks, or several one after the other.
+/// The blocks of a share, or of several one after the other.
 #[derive(Default)]
-struct Row {
+struct Found {
     parts: Parts,
     raw_width: u64,
     report: Report,
 }
 
-impl Row {
-    fn append(&mut self, more: Row) {
+impl Found {
+    fn append(&mut self, more: Found) {
         self.parts.append(more.parts);
         self.raw_width += more.raw_width;
         self.report.append(more.report);
     }
 }
 
-/// What a thread tells of a row that it has ended: its place from the top, and what it is.
-type Ended = (usize, Result<Row, Refusal>);
+/// What a thread tells of a share that it has ended: its place on the sheet, and what it is.
+type Ended = (usize, Result<Found, Refusal>);
 
 impl Sheet {
     /// Cuts the sheet into blocks, searches and lists each. `progress` hears how many rows of
@@ -133,125 +134,139 @@ fn in_threads(
     settings: &Settings,
     threads: usize,
     progress: impl FnMut(usize, usize),
-) -> Result<Row, Failure> {
-    let rows = sheet.height.div_ceil(settings.side);
+) -> Result<Found, Failure> {
+    let shares = Shares::new((sheet.width, sheet.height), settings.side, threads);
     let next = AtomicUsize::new(0);
     let (sender, receiver) = mpsc::channel();
     thread::scope(|scope| {
         let start = |_| {
             let sender = sender.clone();
-            let work = || search_rows(sheet, settings, &next, sender);
+            let work = || search_shares(sheet, settings, shares, &next, sender);
             thread::Builder::new().spawn_scoped(scope, work)
         };
-        let started: io::Result<Vec<_>> = (0..threads.min(rows)).map(start).collect();
+        let started: io::Result<Vec<_>> = (0..threads.min(shares.count())).map(start).collect();
         drop(sender);
         let answer = match started {
-            Ok(_) => in_order(&receiver, rows, progress).map_err(Failure::Refused),
+            Ok(_) => in_order(&receiver, shares, progress).map_err(Failure::Refused),
             Err(error) => Err(Failure::Thread(error)),
         };
         // After a failure those at work find nothing left to do.
-        next.store(rows, Ordering::Relaxed);
+        next.store(shares.count(), Ordering::Relaxed);
         answer
     })
 }
 
 fn in_order(
     receiver: &Receiver<Ended>,
-    rows: usize,
+    shares: Shares,
     mut progress: impl FnMut(usize, usize),
-) -> Result<Row, Refusal> {
+) -> Result<Found, Refusal> {
     let mut joined = Joined::default();
-    for (done, (place, row)) in receiver.iter().enumerate() {
-        joined.take(place, row?);
-        progress(done + 1, rows);
+    let mut left = vec![shares.in_row; shares.rows];
+    let mut done = 0;
+    for (place, found) in receiver {
+        joined.take(place, found?);
+        let left = &mut left[place / shares.in_row];
+        *left -= 1;
+        if *left == 0 {
+            done += 1;
+            progress(done, shares.rows);
+        }
     }
-    Ok(joined.rows)
+    Ok(joined.found)
 }
 
-/// The rows from the top, whatever the order in which the threads end them.
+/// The shares from the top, whatever the order in which the threads end them.
 #[derive(Default)]
 struct Joined {
-    rows: Row,
+    found: Found,
     /// How many they are, and so the place of the next one.
     due: usize,
-    early: BTreeMap<usize, Row>,
+    early: BTreeMap<usize, Found>,
 }
 
 impl Joined {
-    fn take(&mut self, place: usize, row: Row) {
-        self.early.insert(place, row);
-        while let Some(row) = self.early.remove(&self.due) {
-            self.rows.append(row);
+    fn take(&mut self, place: usize, found: Found) {
+        self.early.insert(place, found);
+        while let Some(found) = self.early.remove(&self.due) {
+            self.found.append(found);
             self.due += 1;
         }
     }
 }
 
-fn search_rows(sheet: &Sheet, settings: &Settings, next: &AtomicUsize, sender: Sender<Ended>) {
-    let mut room = Room::new();
+fn search_shares(
+    sheet: &Sheet,
+    settings: &Settings,
+    shares: Shares,
+    next: &AtomicUsize,
+    sender: Sender<Ended>,
+) {
+    let mut room = Room::new(shares.in_strip(), settings.side);
     loop {
         let place = next.fetch_add(1, Ordering::Relaxed);
-        let top = place.saturating_mul(settings.side);
-        if top >= sheet.height {
+        if place >= shares.count() {
             return;
         }
-        let row = search_row(sheet, top, settings, &mut room);
+        let mut found = Found::default();
+        let mut strips = shares.strips(place);
+        let searched =
+            strips.try_for_each(|areas| found.push_strip(sheet, areas, settings, &mut room));
         // The receiver outlives the threads.
-        let _ = sender.send((place, row));
+        let _ = sender.send((place, searched.map(|()| found)));
     }
 }
 
-fn search_row(
-    sheet: &Sheet,
-    top: usize,
-    settings: &Settings,
-    room: &mut Room,
-) -> Result<Row, Refusal> {
-    let mut row = Row::default();
-    for area in area::row(sheet.width, sheet.height, settings.side, top) {
-        let parts = &mut row.parts;
-        match search_block(sheet, area, settings, room, parts) {
-            Ok(listed) => {
-                row.raw_width += u64::from(listed.raw_width());
-                row.report.push(Ok(listed));
+impl Found {
+    /// Adds the blocks of a strip.
+    fn push_strip(
+        &mut self,
+        sheet: &Sheet,
+        areas: impl Iterator<Item = Area> + Clone,
+        settings: &Settings,
+        room: &mut Room,
+    ) -> Result<(), Refusal> {
+        room.gather(sheet, areas.clone());
+        let blocks = Blocks {
+            sides: &room.sides,
+            samples: &room.samples,
+            bd: sheet.bd,
+        };
+        let (lambda, costs) = (settings.lambda, &settings.costs);
+        let answers = search_strip_into(&blocks, lambda, costs, &mut room.map, &mut room.flags)?;
+        for (area, answer) in areas.zip(answers) {
+            match answer {
+                Ok(palette) => self.push_list(&palette, &mut room.words)?,
+                Err(refusal) => self.push_refused(sheet, area, refusal)?,
             }
-            Err(Refusal::ONE_LEVEL) => parts.push_level(sheet.samples[top * sheet.width + area.x]),
-            Err(refusal) if refusal.means_no_palette() => {
-                parts.push_samples(refusal, sheet.rows(area));
-            }
-            Err(refusal) => return Err(refusal),
         }
+        Ok(())
     }
-    Ok(row)
+
+    fn push_list(&mut self, palette: &PaletteView<'_>, words: &mut [u32]) -> Result<(), Refusal> {
+        let listing = list_into(palette, &[], words)?;
+        self.parts.push_list(listing.words);
+        self.raw_width += u64::from(listing.raw_width);
+        self.report.push(Ok(Listed::of(palette, &listing)));
+        Ok(())
+    }
+
+    fn push_refused(&mut self, sheet: &Sheet, area: Area, refusal: Refusal) -> Result<(), Refusal> {
+        match refusal {
+            Refusal::ONE_LEVEL => {
+                let first = area.y * sheet.width + area.x;
+                self.parts.push_level(sheet.samples[first]);
+            }
+            _ if refusal.means_no_palette() => self.parts.push_samples(refusal, sheet.rows(area)),
+            _ => return Err(refusal),
+        }
+        Ok(())
+    }
 }
 
-/// Lists a block that has a palette.
-fn search_block(
-    sheet: &Sheet,
-    area: Area,
-    settings: &Settings,
-    room: &mut Room,
-    parts: &mut Parts,
-) -> Result<Listed, Refusal> {
-    room.samples.clear();
-    for row in sheet.rows(area) {
-        room.samples.extend(row.iter().map(|&v| f32::from(v)));
-    }
-    let block = Block {
-        samples: &room.samples,
-        width: area.width,
-        height: area.height,
-        bd: sheet.bd,
-    };
-    let (lambda, costs) = (settings.lambda, &settings.costs);
-    let palette = search_into(&block, lambda, costs, &mut room.map, &mut room.flags)?;
-    let listing = list_into(&palette, &[], &mut room.words)?;
-    parts.push_list(listing.words);
-    Ok(Listed::of(&palette, &listing))
-}
-
-/// The room for one block, used again for the next.
+/// The room for one strip, used again for the next.
 struct Room {
+    sides: Vec<[usize; 2]>,
     samples: Vec<f32>,
     map: Vec<u8>,
     flags: Vec<u8>,
@@ -259,12 +274,25 @@ struct Room {
 }
 
 impl Room {
-    fn new() -> Room {
+    fn new(blocks: usize, side: usize) -> Room {
         Room {
-            samples: Vec::with_capacity(MAX_CELLS),
-            map: vec![0; MAX_CELLS],
-            flags: vec![0; MAX_LINES],
+            sides: Vec::with_capacity(blocks),
+            samples: Vec::with_capacity(blocks * side * side),
+            map: vec![0; blocks * side * side],
+            flags: vec![0; blocks * side],
             words: vec![0; MAX_WORDS],
+        }
+    }
+
+    /// Takes the sides and the samples of a strip.
+    fn gather(&mut self, sheet: &Sheet, areas: impl Iterator<Item = Area>) {
+        self.sides.clear();
+        self.samples.clear();
+        for area in areas {
+            self.sides.push([area.width, area.height]);
+            for row in sheet.rows(area) {
+                self.samples.extend(row.iter().map(|&v| f32::from(v)));
+            }
         }
     }
 }

@@ -50,22 +50,30 @@ fn refused_blocks_hold_what_no_list_does() {
     }
 }
 
+/// Form, picture, page and summary, without the line of seconds and that of the speed.
+fn output(folder: &Path, words: &str) -> [Vec<u8>; 4] {
+    let names = ["lists", "picture", "page"];
+    let files = "--lists lists --picture picture --report page";
+    let summary = printed(folder, &format!("{words} {files}"));
+    let timed = |line: &&str| line.starts_with("seconds ") || line.starts_with("samples a second");
+    let lines: String = summary.lines().filter(|line| !timed(line)).collect();
+    let [lists, picture, page] = names.map(|name| fs::read(folder.join(name)).unwrap());
+    [lists, picture, page, lines.into_bytes()]
+}
+
+/// Three rows of blocks, or one that is cut for the threads.
 #[test]
 fn output_does_not_depend_on_threads() {
     let folder = folder("threads");
-    fs::write(folder.join("a.pgm"), pgm(150, 131, 255, bars)).unwrap();
-    for side in [5, 16, 64] {
-        for threads in [1, 3, 40] {
-            let names = format!("--lists l{threads} --picture p{threads} --report r{threads}");
-            printed(
-                &folder,
-                &format!("a.pgm --side {side} --threads {threads} {names}"),
-            );
-        }
-        let read = |name: &str| fs::read(folder.join(name)).unwrap();
-        for file in ["l", "p", "r"] {
-            let [one, three, many] = [1, 3, 40].map(|threads| read(&format!("{file}{threads}")));
-            assert!(one == three && one == many, "side {side}, file {file}");
+    for (width, height) in [(150, 131), (1300, 5), (1300, 64)] {
+        fs::write(folder.join("a.pgm"), pgm(width, height, 255, bars)).unwrap();
+        for side in [5, 16, 64] {
+            let words = |threads: usize| format!("a.pgm --side {side} --threads {threads}");
+            let one = output(&folder, &words(1));
+            for threads in [2, 3, 8, 40] {
+                let same = output(&folder, &words(threads)) == one;
+                assert!(same, "{width} by {height}, side {side}, {threads} threads");
+            }
         }
     }
 }

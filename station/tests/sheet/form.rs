@@ -81,7 +81,7 @@ pub fn cut(sheet: &Sheet, settings: &Settings) -> Vec<Cut> {
 }
 
 /// The form as its description has it, from single searches, and the sum of their raw widths.
-fn described(sheet: &Sheet, settings: &Settings) -> (String, u64) {
+pub fn described(sheet: &Sheet, settings: &Settings) -> (String, u64) {
     let hex = |f: f32| format!("{:08x}", f.to_bits());
     let mut text = format!(
         "palette-sheet 1\nwidth {}\nheight {}\ndepth {}\nside {}\nlevels {}\nlambda {}\ncosts\n",

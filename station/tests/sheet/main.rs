@@ -16,3 +16,4 @@ mod scans;
 mod script;
 mod shown;
 mod summary;
+mod threads;
