@@ -1,7 +1,7 @@
 //! What our `list`, `pred` and `search` must answer to a request: the original's words, values or
 //! palette where document 01 accepts, else its number.
 
-use crate::check::{list_number, palette_number, search_number};
+use crate::check::{list_number, palette_number, search_number, Asked};
 use crate::generate::requests::Request;
 use crate::generate::searches::SearchRequest;
 use crate::original::{self, raw_width, Found};
@@ -98,19 +98,23 @@ impl SearchAnswer {
 }
 
 pub fn search_answer(request: &SearchRequest) -> SearchAnswer {
-    let number = search_number(&request.asked());
-    SearchAnswer::new(number, run_original(request, number))
+    asked_answer(&request.asked())
 }
 
-/// The original's answer to a request with its number. It is kept away from what tests 1 to 7
-/// refuse, and must decline exactly what 8, 9 and 10 refuse.
-pub fn run_original(request: &SearchRequest, number: u32) -> Option<Found> {
+pub fn asked_answer(asked: &Asked) -> SearchAnswer {
+    let number = search_number(asked);
+    SearchAnswer::new(number, run_original(asked, number))
+}
+
+/// The original's answer to what has this number. It is kept away from what tests 1 to 7 refuse,
+/// and must decline exactly what 8, 9 and 10 refuse.
+pub fn run_original(asked: &Asked, number: u32) -> Option<Found> {
     if (1..=7).contains(&number) {
         return None;
     }
-    let costs = request.costs[..].try_into().expect("test 5 passed");
-    let (w, h, bd) = (request.w, request.h, request.bd);
-    let found = original::search(&request.samples, w, h, bd, request.lambda, costs);
+    let costs = asked.costs.try_into().expect("test 5 passed");
+    let (w, h, bd) = (asked.w, asked.h, asked.bd);
+    let found = original::search(asked.samples, w, h, bd, asked.lambda, costs);
     assert_eq!(
         found.is_some(),
         number == 0,

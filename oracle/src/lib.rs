@@ -25,9 +25,11 @@ pub mod replay;
 pub mod replay_blocks;
 pub mod replay_costs;
 pub mod replay_reads;
+pub mod replay_strips;
 pub mod report_text;
 pub mod reported;
 mod sending;
+pub mod strips;
 pub mod text;
 pub mod worked;
 

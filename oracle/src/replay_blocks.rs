@@ -6,6 +6,7 @@ use crate::generate::close::close_block;
 use crate::generate::costs::{costs, CostKind};
 use crate::generate::random::{Beside, Random};
 use crate::generate::searches::{with_rooms, SearchKinds, SearchRequest};
+use crate::generate::sides::SMALL;
 use crate::lent::Costs;
 use crate::original::Block;
 use crate::replay::{hash, put_pair};
@@ -92,29 +93,12 @@ fn small_block(seed: u64, index: u64) -> (Block, BlockKinds) {
     (block, kinds)
 }
 
-fn group_costs(seed: u64, group: u64) -> (Box<Costs>, CostKind) {
+/// The costs that a group of blocks or strips shares.
+pub(crate) fn group_costs(seed: u64, group: u64) -> (Box<Costs>, CostKind) {
     let random = &mut Random::beside(seed, group, Beside::Group);
     let kind = random.pick(CostKind::ALL);
     (costs(random, kind, 8), kind)
 }
-
-/// Small blocks, of which many go into a file of bounded size.
-const SIDES: &[(usize, usize)] = &[
-    (16, 1),
-    (1, 16),
-    (16, 4),
-    (4, 17),
-    (1, 64),
-    (64, 1),
-    (64, 3),
-    (3, 64),
-    (63, 4),
-    (4, 63),
-    (17, 16),
-    (16, 16),
-    (20, 12),
-    (12, 20),
-];
 
 /// Great blocks, and those refused by 8, stand at fixed places, so that there are few of them.
 fn sides(random: &mut Random, index: u64) -> (usize, usize) {
@@ -122,7 +106,7 @@ fn sides(random: &mut Random, index: u64) -> (usize, usize) {
         50 | 250 => (64, 64),
         _ if index % 25 == 10 => (32, 32),
         _ if index % 25 == 20 => random.pick(&[(15, 15), (2, 15)]),
-        _ => random.pick(SIDES),
+        _ => random.pick(SMALL),
     }
 }
 
@@ -153,7 +137,7 @@ pub(crate) fn request_bytes(request: &SearchRequest, same_costs: bool) -> Vec<u8
     bytes
 }
 
-fn put_float(bytes: &mut Vec<u8>, value: f32) {
+pub(crate) fn put_float(bytes: &mut Vec<u8>, value: f32) {
     bytes.extend(value.to_bits().to_le_bytes());
 }
 

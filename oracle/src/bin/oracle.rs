@@ -6,6 +6,7 @@ use palette_oracle::replay::{self, replayed};
 use palette_oracle::replay_blocks::{self, replayed_blocks};
 use palette_oracle::replay_costs::{self, replayed_tables, steps};
 use palette_oracle::replay_reads::{self, replayed_reads};
+use palette_oracle::replay_strips::{self, replayed_strips};
 use palette_oracle::report_text::report;
 use palette_oracle::reported::reported;
 use palette_oracle::text::{answer, parse, Case};
@@ -19,6 +20,7 @@ const USAGE: &str =
      | replay-blocks-input SEED COUNT | replay-blocks-output SEED COUNT\n\
      | read-input SEED COUNT | read-output SEED COUNT\n\
      | costs-input SEED COUNT | costs-output SEED COUNT\n\
+     | strips-input SEED COUNT | strips-output SEED COUNT\n\
      | report-input SEED COUNT | report-output SEED COUNT\n\
      | asking-input [SEED COUNT] | asking-output [SEED COUNT]";
 
@@ -49,6 +51,12 @@ fn main() -> ExitCode {
             write_each(seed, count, replayed_tables, input(replay_costs::bytes))
         }
         ["costs-output", seed, count] => write_costs_output(seed, count),
+        ["strips-input", seed, count] => {
+            write_each(seed, count, replayed_strips, input(replay_strips::bytes))
+        }
+        ["strips-output", seed, count] => {
+            write_each(seed, count, replayed_strips, output(replay_strips::lines))
+        }
         ["report-input", seed, count] => write_report(seed, count, |text| text),
         ["report-output", seed, count] => write_report(seed, count, |text| report(&text)),
         ["asking-input", ref choice @ ..] => write_asking_input(choice),

@@ -77,7 +77,8 @@ pub fn block_of(random: &mut Random, kinds: BlockKinds, w: usize, h: usize) -> B
     }
 }
 
-fn samples(random: &mut Random, kinds: BlockKinds, w: usize, h: usize, top: u32) -> Vec<f32> {
+/// The samples of a block of given kinds and sides, with levels up to `top`.
+pub fn samples(random: &mut Random, kinds: BlockKinds, w: usize, h: usize, top: u32) -> Vec<f32> {
     let mut levels = levels(random, kinds.spacing, kinds.count, top);
     if matches!(
         kinds.fraction,

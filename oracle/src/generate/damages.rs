@@ -1,4 +1,5 @@
-//! What the requests of `list`, `pred`, `search` and `read` have in common: spare room and damages.
+//! What the requests of `list`, `pred`, `search`, `search_strip` and `read` have in common: spare
+//! room and damages.
 
 use super::random::Random;
 
@@ -31,9 +32,14 @@ pub fn damage_side(random: &mut Random, w: &mut usize, h: &mut usize) {
 /// What a side out of range may ask for at most, of samples and of room.
 pub const MOST: usize = 4240;
 
-/// One place fewer than needed, or any number fewer.
+/// Fewer places than needed, which are `MOST` at most, as a side may be out of range.
 pub fn lacking(random: &mut Random, needed: usize) -> usize {
-    let needed = needed.clamp(1, MOST);
+    fewer(random, needed.min(MOST))
+}
+
+/// One place fewer, or any number fewer.
+pub fn fewer(random: &mut Random, needed: usize) -> usize {
+    let needed = needed.max(1);
     if random.one_in(2) {
         needed - 1
     } else {

@@ -38,4 +38,5 @@ pub mod requests;
 pub mod searches;
 pub mod sheets;
 pub mod sides;
+pub mod strips;
 pub mod texts;

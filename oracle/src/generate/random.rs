@@ -24,6 +24,8 @@ pub enum Beside {
     Read = 58,
     /// Adapted tables that costs are made from.
     Adapted = 57,
+    /// Strips of blocks.
+    Strip = 56,
 }
 
 impl Random {

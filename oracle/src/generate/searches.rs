@@ -120,7 +120,7 @@ fn damage(random: &mut Random, kind: SearchDamage, request: &mut SearchRequest) 
 
 /// One place more or fewer; now and then none at all, or so many more that a count cut to a byte
 /// would be the sound one again.
-fn damage_count(random: &mut Random, values: &mut Vec<f32>) {
+pub(super) fn damage_count(random: &mut Random, values: &mut Vec<f32>) {
     match random.below(8) {
         0 => values.clear(),
         1 => values.resize(values.len() + 256, 0.0),
@@ -142,7 +142,7 @@ fn cells(request: &SearchRequest) -> usize {
 
 /// A value below 0, above `end` or none at all. Each NaN is a quiet one: a signalling one may
 /// change on its way.
-fn outside(random: &mut Random, end: u32) -> f32 {
+pub(super) fn outside(random: &mut Random, end: u32) -> f32 {
     let end = end as f32;
     match random.below(4) {
         0 => random.pick(&[-f32::from_bits(1), -1.0, -f32::MAX]),

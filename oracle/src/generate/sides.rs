@@ -54,6 +54,24 @@ pub fn small_sides(random: &mut Random) -> (usize, usize) {
     sides.into()
 }
 
+/// Blocks of few cells that pass test 8; many of them go into a file of bounded size.
+pub const SMALL: &[(usize, usize)] = &[
+    (16, 1),
+    (1, 16),
+    (16, 4),
+    (4, 17),
+    (1, 64),
+    (64, 1),
+    (64, 3),
+    (3, 64),
+    (63, 4),
+    (4, 63),
+    (17, 16),
+    (16, 16),
+    (20, 12),
+    (12, 20),
+];
+
 pub fn depth(random: &mut Random) -> u32 {
     random.between(8, 12) as u32
 }
