@@ -73,7 +73,7 @@ pub fn read_pairs(numbers: &mut [u16], count: usize)
 }
 
 // One step of the hash: times 65,599 and plus the word, below a prime, so that nothing wraps.
-fn hashed(h: u64, word: u32) -> u64
+pub fn hashed(h: u64, word: u32) -> u64
     requires { ⌜ h < 4294967291 ⌝ }
     ensures { λ r. ⌜ r < 4294967291 ⌝ }
 {
@@ -87,6 +87,19 @@ pub fn hash(words: &[u32; 4240], count: usize) -> u64
     let mut i: usize = 0;
     while i < count {
         h = hashed(h, words[i]);
+        i += 1;
+    }
+    h
+}
+
+// The hash of the bytes from one place to before another.
+pub fn hash_bytes(bytes: &[u8], from: usize, to: usize) -> u64
+    requires { ⌜ to ≤ length (now bytes) ⌝ }
+{
+    let mut h: u64 = 0;
+    let mut i = from;
+    while i < to {
+        h = hashed(h, word(bytes[i]));
         i += 1;
     }
     h
@@ -197,7 +210,7 @@ fn float_of(bits: u32) -> f32 {
     f32::from_bits(bits)
 }
 
-fn float(b0: u8, b1: u8, b2: u8, b3: u8) -> f32 {
+pub fn float(b0: u8, b1: u8, b2: u8, b3: u8) -> f32 {
     float_of(four(b0, b1, b2, b3))
 }
 
@@ -220,10 +233,10 @@ fn head_of(head: &[u8; 15], got: usize) -> BlockHead
 }
 
 // Reads as many floats into the front.
-fn read_floats(floats: &mut [f32], count: usize)
-    requires { ⌜ (count ≤ 4200) × (count ≤ length (now floats)) ⌝ }
+pub fn read_floats(floats: &mut [f32], count: usize)
+    requires { ⌜ (count ≤ 8192) × (count ≤ length (now floats)) ⌝ }
 {
-    let mut bytes = [0u8; 16800];
+    let mut bytes = [0u8; 32768];
     read_front(&mut bytes, 4 * count);
     let mut i: usize = 0;
     while i < count {
@@ -233,14 +246,14 @@ fn read_floats(floats: &mut [f32], count: usize)
     }
 }
 
-// Reads the costs, unless those of the block before serve again.
-fn read_costs(costs: &mut [f32], head: BlockHead)
-    requires { ⌜ (length (now costs) ≡ 560) × (head .costs ≤ 560) ⌝ }
+// Reads the costs, unless those before serve again.
+pub fn read_costs(costs: &mut [f32], count: usize, again: bool)
+    requires { ⌜ (length (now costs) ≡ 560) × (count ≤ 560) ⌝ }
 {
-    if head.again {
+    if again {
         return;
     }
-    read_floats(costs, head.costs);
+    read_floats(costs, count);
 }
 
 // Reads the next block. It is 15 bytes: width, height, bd, flag room; then map room, sample count and cost count, each of
@@ -257,7 +270,7 @@ pub fn next_block(samples: &mut [f32], costs: &mut [f32]) -> BlockHead
     if !head.there {
         return head;
     }
-    read_costs(costs, head);
+    read_costs(costs, head.costs, head.again);
     read_floats(samples, head.samples);
     head
 }
