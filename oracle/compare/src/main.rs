@@ -12,6 +12,7 @@ mod program;
 mod reads;
 mod reports;
 mod searches;
+mod strips;
 mod tally;
 mod texts;
 
@@ -20,8 +21,8 @@ use std::process::ExitCode;
 use std::time::Instant;
 
 const USAGE: &str =
-    "usage: compare search|lists|contexts|reads|damaged|costs|made|texts|reports|environments \
-     SEED COUNT [THREADS]\n\
+    "usage: compare search|strips|full-strips|damaged-strips|lists|contexts|reads|damaged|costs\
+     |made|texts|reports|environments SEED COUNT [THREADS]\n\
      | long-reports SEED";
 
 /// A thread for each core of a small machine.
@@ -58,6 +59,9 @@ fn run() -> Result<bool, String> {
     println!("{command}, seed {seed}");
     match command {
         "search" => searches::compare(run),
+        "strips" => strips::compare_any(run),
+        "full-strips" => strips::compare_full(run),
+        "damaged-strips" => strips::compare_damaged(run),
         "lists" => lists::compare(run),
         "contexts" => contexts::compare(run),
         "reads" => reads::compare_sound(run),
