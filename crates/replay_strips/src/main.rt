@@ -5,8 +5,8 @@
 // Behind them stand the sides, of two bytes each, the costs (none where they serve again) and the samples, each by its bits,
 // of four bytes.
 // Its line: its place, the number, a hash of all 64 answers, a hash of the whole buffer for maps and one of that for flags.
-// A block's line, where the strip is not refused: the number, n, the orientation, the eight colours, the estimate's bits, a hash of
-// its part of the map and one of its part of the flags, written or not.
+// A block's line, where the strip is not refused: the number, n, the orientation, the eight colours, the estimate's bits, a
+// hash of its part of the map and one of its part of the flags, written or not.
 // Functions here may have a `requires`.
 use accept::Palette;
 use replaying::at_most;
@@ -17,6 +17,7 @@ use replaying::print_answer;
 use replaying::print_number;
 use replaying::read_pairs;
 use replaying::size;
+use strip::Strip;
 ghost use mathlib.Core.Path.{_≡_};
 ghost use Prim.Native.Nat.{_<_, _≤_};
 ghost use lib.ListN.{length};
@@ -42,7 +43,8 @@ pub struct Places {
 }
 
 fn head_of(head: &[u8; 16], got: usize) -> StripHead
-    ensures { λ r. ⌜ (r .sides ≤ 300) × (r .«map_room» ≤ 8192) × (r .«flag_room» ≤ 2048) × (r .samples ≤ 8192) × (r .costs ≤ 560) ⌝ }
+    ensures { λ r. ⌜ (r .«map_room» ≤ 8192) × (r .«flag_room» ≤ 2048) ⌝ }
+    ensures { λ r. ⌜ (r .sides ≤ 300) × (r .samples ≤ 8192) × (r .costs ≤ 560) ⌝ }
 {
     StripHead {
         there: 16 <= got,
@@ -57,12 +59,16 @@ fn head_of(head: &[u8; 16], got: usize) -> StripHead
     }
 }
 
+fn wide(number: u16) -> usize {
+    number as usize
+}
+
 fn widen(numbers: &[u16], sides: &mut [usize], count: usize)
     requires { ⌜ (count ≤ length (now numbers)) × (count ≤ length (now sides)) ⌝ }
 {
     let mut i: usize = 0;
     while i < count {
-        sides[i] = numbers[i] as usize;
+        sides[i] = wide(numbers[i]);
         i += 1;
     }
 }
@@ -78,7 +84,8 @@ fn read_sides(sides: &mut [usize], count: usize)
 // Reads the next strip.
 fn next_strip(sides: &mut [usize], samples: &mut [f32], costs: &mut [f32]) -> StripHead
     requires { ⌜ (length (now sides) ≡ 300) × (length (now samples) ≡ 8192) × (length (now costs) ≡ 560) ⌝ }
-    ensures { λ r. ⌜ (r .sides ≤ 300) × (r .«map_room» ≤ 8192) × (r .«flag_room» ≤ 2048) × (r .samples ≤ 8192) × (r .costs ≤ 560) ⌝ }
+    ensures { λ r. ⌜ (r .«map_room» ≤ 8192) × (r .«flag_room» ≤ 2048) ⌝ }
+    ensures { λ r. ⌜ (r .sides ≤ 300) × (r .samples ≤ 8192) × (r .costs ≤ 560) ⌝ }
 {
     let mut bytes = [0u8; 16];
     let got = io::read_full(0, &mut bytes);
@@ -137,6 +144,13 @@ fn print_block(p: Palette, map: &[u8], flags: &[u8], from: Places, to: Places)
     io::write_all(1, b"\n");
 }
 
+fn area(width: usize, height: usize) -> usize
+    requires { ⌜ (width ≤ 64) × (height ≤ 64) ⌝ }
+    ensures { λ r. ⌜ r ≤ 4096 ⌝ }
+{
+    width * height
+}
+
 fn longer(width: usize, height: usize) -> usize
     requires { ⌜ (width ≤ 64) × (height ≤ 64) ⌝ }
     ensures { λ r. ⌜ r ≤ 64 ⌝ }
@@ -152,7 +166,7 @@ fn past(at: Places, width: usize, height: usize) -> Places
     let w = at_most(width, 64);
     let h = at_most(height, 64);
     Places {
-        cells: at_most(at.cells + w * h, 8192),
+        cells: at_most(at.cells + area(w, h), 8192),
         lines: at_most(at.lines + longer(w, h), 2048),
     }
 }
@@ -171,7 +185,45 @@ fn print_blocks(answers: [Palette; 64], sides: &[usize], map: &[u8], flags: &[u8
     }
 }
 
-// Lends the front of both buffers, and prints the answers and what the buffers then hold.
+// Lends the front of both buffers.
+fn search_in(
+    a: StripHead,
+    sides: &[usize],
+    samples: &[f32],
+    costs: &[f32],
+    map: &mut [u8],
+    flags: &mut [u8],
+) -> Strip
+    requires { ⌜ (a .«map_room» ≤ length (now map)) × (a .«flag_room» ≤ length (now flags)) ⌝ }
+{
+    let map_room = a.map_room;
+    let flag_room = a.flag_room;
+    palette::search_strip(
+        sides,
+        samples,
+        a.bd,
+        a.lambda,
+        costs,
+        &mut map[..map_room],
+        &mut flags[..flag_room],
+    )
+}
+
+// Prints the answers and what the buffers hold.
+fn print_strip(strip: Strip, sides: &[usize], map: &[u8], flags: &[u8])
+    requires { ⌜ (length (now map) ≡ 8192) × (length (now flags) ≡ 2048) ⌝ }
+{
+    let answers = strip.answers;
+    print_number(strip.number as u64);
+    print_number(hash_answers(answers));
+    print_number(hash_bytes(map, 0, 8192));
+    print_number(hash_bytes(flags, 0, 2048));
+    io::write_all(1, b"\n");
+    if strip.number == 0 {
+        print_blocks(answers, sides, map, flags);
+    }
+}
+
 fn replay_strip(
     a: StripHead,
     sides: &[usize],
@@ -183,26 +235,8 @@ fn replay_strip(
     requires { ⌜ (length (now map) ≡ 8192) × (length (now flags) ≡ 2048) ⌝ }
     requires { ⌜ (a .«map_room» ≤ 8192) × (a .«flag_room» ≤ 2048) ⌝ }
 {
-    let map_room = a.map_room;
-    let flag_room = a.flag_room;
-    let strip = palette::search_strip(
-        sides,
-        samples,
-        a.bd,
-        a.lambda,
-        costs,
-        &mut map[..map_room],
-        &mut flags[..flag_room],
-    );
-    let answers = strip.answers;
-    print_number(strip.number as u64);
-    print_number(hash_answers(answers));
-    print_number(hash_bytes(map, 0, 8192));
-    print_number(hash_bytes(flags, 0, 2048));
-    io::write_all(1, b"\n");
-    if strip.number == 0 {
-        print_blocks(answers, sides, map, flags);
-    }
+    let strip = search_in(a, sides, samples, costs, map, flags);
+    print_strip(strip, sides, map, flags);
 }
 
 fn print_lines(place: u64, a: StripHead, sides: &[usize], samples: &[f32], costs: &[f32])
@@ -217,7 +251,8 @@ fn print_lines(place: u64, a: StripHead, sides: &[usize], samples: &[f32], costs
 // Lends the sides, samples and costs that were read.
 fn replay(place: u64, a: StripHead, sides: &[usize], samples: &[f32], costs: &[f32])
     requires { ⌜ (a .«map_room» ≤ 8192) × (a .«flag_room» ≤ 2048) ⌝ }
-    requires { ⌜ (a .sides ≤ length (now sides)) × (a .samples ≤ length (now samples)) × (a .costs ≤ length (now costs)) ⌝ }
+    requires { ⌜ (a .sides ≤ length (now sides)) × (a .samples ≤ length (now samples)) ⌝ }
+    requires { ⌜ a .costs ≤ length (now costs) ⌝ }
 {
     let sided = a.sides;
     let sampled = a.samples;
