@@ -1,8 +1,10 @@
-//! Times our search, listing and reading beside the original's search on three drawn sheets.
+//! Times our search, listing and reading beside the original's search on three drawn sheets; or
+//! our strips beside our separate searches.
 
 mod batch;
 mod plot;
 mod rounds;
+mod strips;
 mod table;
 
 use batch::{due, read_ours, search_ours, Prices, Room};
@@ -15,7 +17,7 @@ use rounds::{time, Timed};
 use std::process::ExitCode;
 use table::{print_head, print_line, Outcome};
 
-const USAGE: &str = "usage: bench [--part N] [--passes N] [--plot FILE]";
+const USAGE: &str = "usage: bench [strips] [--part N] [--passes N] [--plot FILE]";
 const SIDES: [usize; 3] = [64, 32, 16];
 const LAMBDAS: [f32; 3] = [20.0, 60.0, 200.0];
 const PASSES: usize = 5;
@@ -25,7 +27,9 @@ const PASSES: usize = 5;
 const BATCH: usize = 8;
 
 struct Options {
-    /// Only each so many-th block.
+    /// Strips beside separate searches.
+    strips: bool,
+    /// Only each so many-th block, or row of blocks.
     part: usize,
     passes: usize,
     /// Where the chart goes.
@@ -40,7 +44,11 @@ fn main() -> ExitCode {
             return ExitCode::FAILURE;
         }
     };
-    let (differences, bars) = run(&options);
+    let (differences, bars) = if options.strips {
+        (strips::run(options.part, options.passes), Vec::new())
+    } else {
+        run(&options)
+    };
     println!("differences {differences}");
     if let Some(path) = &options.plot {
         if let Err(error) = std::fs::write(path, chart(&bars)) {
@@ -57,10 +65,11 @@ fn main() -> ExitCode {
 
 fn read_options() -> Result<Options, String> {
     let (mut part, mut passes, mut plot) = (1, PASSES, None);
-    let mut arguments = std::env::args().skip(1);
+    let mut arguments = std::env::args().skip(1).peekable();
+    let strips = arguments.next_if(|name| name == "strips").is_some();
     while let Some(name) = arguments.next() {
         let text = arguments.next();
-        if let ("--plot", Some(path)) = (name.as_str(), &text) {
+        if let ("--plot", false, Some(path)) = (name.as_str(), strips, &text) {
             plot = Some(path.clone());
             continue;
         }
@@ -71,7 +80,12 @@ fn read_options() -> Result<Options, String> {
             _ => return Err(USAGE.to_string()),
         }
     }
-    Ok(Options { part, passes, plot })
+    Ok(Options {
+        strips,
+        part,
+        passes,
+        plot,
+    })
 }
 
 fn run(options: &Options) -> (usize, Vec<Bar>) {

@@ -23,14 +23,26 @@ pub struct Cut {
 
 /// Left upper corners of the blocks of a side, row by row.
 pub fn corners(side: usize) -> impl Iterator<Item = (usize, usize)> {
-    let rows = (0..HEIGHT).step_by(side);
-    rows.flat_map(move |y| (0..WIDTH).step_by(side).map(move |x| (x, y)))
+    rows_of_corners((side, side)).flatten()
+}
+
+/// Those of blocks of a width and a height, a row of the sheet at a time.
+pub fn rows_of_corners(
+    (width, height): (usize, usize),
+) -> impl Iterator<Item = impl Iterator<Item = (usize, usize)>> {
+    let rows = (0..HEIGHT).step_by(height);
+    rows.map(move |y| (0..WIDTH).step_by(width).map(move |x| (x, y)))
 }
 
 impl Sheet {
-    /// The block with its left upper corner at a place, cut off at the sheet's edges.
-    pub fn cut(&self, (x, y): (usize, usize), side: usize) -> Cut {
-        let (w, h) = (side.min(WIDTH - x), side.min(HEIGHT - y));
+    /// The block of a side with its left upper corner at a place, cut off at the sheet's edges.
+    pub fn cut(&self, corner: (usize, usize), side: usize) -> Cut {
+        self.cut_to(corner, (side, side))
+    }
+
+    /// That of a width and a height.
+    pub fn cut_to(&self, (x, y): (usize, usize), (width, height): (usize, usize)) -> Cut {
+        let (w, h) = (width.min(WIDTH - x), height.min(HEIGHT - y));
         let row = |row: usize| &self.samples[row * WIDTH + x..][..w];
         let samples = (y..y + h).flat_map(|y| row(y).iter().map(|&s| f32::from(s)));
         let samples = samples.collect();
