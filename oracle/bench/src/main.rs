@@ -29,7 +29,7 @@ const BATCH: usize = 8;
 struct Options {
     /// Strips beside separate searches.
     strips: bool,
-    /// Only each so many-th block, or row of blocks.
+    /// Only each so many-th block, or strip.
     part: usize,
     passes: usize,
     /// Where the chart goes.

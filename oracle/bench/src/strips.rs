@@ -3,7 +3,7 @@
 use crate::batch::Prices;
 use palette_compare::clock::Clock;
 use palette_oracle::generate::costs::logarithms;
-use palette_oracle::generate::sheets::{rows_of_corners, sheets, Cut, Sheet, DEPTH};
+use palette_oracle::generate::sheets::{corners_of, sheets, Cut, Sheet, DEPTH};
 use palette_station::{search_into, search_strip_into, Block, Blocks, Costs, MAX_STRIP};
 use palette_station::{Palette, PaletteView, Refusal};
 use std::hint::black_box;
@@ -17,9 +17,11 @@ type Answer<'a> = Result<PaletteView<'a>, Refusal>;
 
 /// Prints the table; the count of strips that differ from separate searches.
 pub fn run(part: usize, passes: usize) -> usize {
-    println!("each {part}. row of blocks, the least of {passes} passes, lambda {LAMBDA}");
-    println!("strip / separate: the time of strips of up to {MAX_STRIP} blocks of a row, divided by that of a search for each block;");
-    println!("of all blocks, of those with a palette alone, and of those without alone");
+    println!("each {part}. strip, the least of {passes} passes, lambda {LAMBDA}");
+    println!(
+        "all: the time of strips of {MAX_STRIP} blocks, divided by that of a search for each block"
+    );
+    println!("found, refused: the same of strips of blocks with a palette alone, and of those without alone");
     println!("   sheet     cut  blocks   found     all   found refused");
     let costs = Costs::from_table(*logarithms());
     let prices = Prices {
@@ -41,33 +43,44 @@ fn print_line(
     prices: &Prices,
     (part, passes): (usize, usize),
 ) -> usize {
-    let (mut all, mut found, mut refused) = <(Times, Times, Times)>::default();
-    let (mut blocks, mut with) = (0, 0);
-    let mut differences = 0;
-    for corners in rows_of_corners(cut).step_by(part) {
-        let row: Vec<Cut> = corners.map(|corner| sheet.cut_to(corner, cut)).collect();
-        let answers = separately(&row, prices);
-        differences += usize::from(together(&row, prices) != answers);
-        let chosen = |ok: bool| {
-            let pairs = row.iter().zip(&answers);
-            pairs.filter(move |(_, a)| a.is_ok() == ok).map(|(b, _)| b)
-        };
-        all.add(row.iter(), prices, passes);
-        found.add(chosen(true), prices, passes);
-        refused.add(chosen(false), prices, passes);
-        blocks += row.len();
-        with += chosen(true).count();
+    let corners: Vec<_> = corners_of(cut).collect();
+    let (mut found, mut refused) = (Vec::new(), Vec::new());
+    let (mut all, mut differences) = (Times::default(), 0);
+    for strip in corners.chunks(MAX_STRIP).step_by(part) {
+        let blocks: Vec<Cut> = strip.iter().map(|&at| sheet.cut_to(at, cut)).collect();
+        let mut strip = Strip::of(&blocks);
+        let answers = answers(|answer| strip.search_each(prices, answer));
+        let same = answers == self::answers(|answer| strip.search(prices, answer));
+        differences += usize::from(!same);
+        all.add(&mut strip, prices, passes);
+        for (block, answer) in blocks.into_iter().zip(answers) {
+            let kind = if answer.is_ok() {
+                &mut found
+            } else {
+                &mut refused
+            };
+            kind.push(block);
+        }
     }
     let (width, height) = cut;
     println!(
-        "{:>8} {:>7} {blocks:>7} {with:>7} {:>7} {:>7} {:>7}",
+        "{:>8} {:>7} {:>7} {:>7} {:>7} {:>7} {:>7}",
         sheet.name,
         format!("{width}x{height}"),
+        found.len() + refused.len(),
+        found.len(),
         all.ratio(),
-        found.ratio(),
-        refused.ratio()
+        Times::of(&found, prices, passes).ratio(),
+        Times::of(&refused, prices, passes).ratio()
     );
     differences
+}
+
+/// The palettes and refusals of a search, in their order.
+fn answers(search: impl FnOnce(&mut dyn FnMut(Answer<'_>))) -> Vec<Result<Palette, Refusal>> {
+    let mut all = Vec::new();
+    search(&mut |answer| all.push(answer.map(|palette| palette.to_palette())));
+    all
 }
 
 /// Times of strips and of separate searches.
@@ -78,27 +91,31 @@ struct Times {
 }
 
 impl Times {
-    /// Adds the least times of strips of these blocks. The two take turns in going first.
-    fn add<'a>(&mut self, blocks: impl Iterator<Item = &'a Cut>, prices: &Prices, passes: usize) {
-        let blocks: Vec<&Cut> = blocks.collect();
+    fn of(blocks: &[Cut], prices: &Prices, passes: usize) -> Self {
+        let mut times = Times::default();
         for strip in blocks.chunks(MAX_STRIP) {
-            let mut strip = Strip::of(strip);
-            let (mut least, mut least_separate) = (Duration::MAX, Duration::MAX);
-            for pass in 0..passes {
-                for turn in [pass % 2 == 0, pass % 2 != 0] {
-                    let start = Clock::start();
-                    if turn {
-                        strip.search(prices, seen);
-                        least = least.min(start.elapsed());
-                    } else {
-                        strip.search_each(prices, seen);
-                        least_separate = least_separate.min(start.elapsed());
-                    }
+            times.add(&mut Strip::of(strip), prices, passes);
+        }
+        times
+    }
+
+    /// Adds the least times of a strip. The two take turns in going first.
+    fn add(&mut self, strip: &mut Strip, prices: &Prices, passes: usize) {
+        let (mut together, mut separate) = (Duration::MAX, Duration::MAX);
+        for pass in 0..passes {
+            for turn in [pass % 2 == 0, pass % 2 != 0] {
+                let start = Clock::start();
+                if turn {
+                    strip.search(prices, seen);
+                    together = together.min(start.elapsed());
+                } else {
+                    strip.search_each(prices, seen);
+                    separate = separate.min(start.elapsed());
                 }
             }
-            self.strips += least;
-            self.separate += least_separate;
         }
+        self.strips += together;
+        self.separate += separate;
     }
 
     fn ratio(&self) -> String {
@@ -124,7 +141,7 @@ struct Strip {
 }
 
 impl Strip {
-    fn of(blocks: &[&Cut]) -> Self {
+    fn of(blocks: &[Cut]) -> Self {
         let samples: Vec<f32> = blocks.iter().flat_map(|b| b.samples.clone()).collect();
         Strip {
             sides: blocks.iter().map(|b| [b.w, b.h]).collect(),
@@ -165,26 +182,4 @@ impl Strip {
             (cell, line) = (cell + cells, line + lines);
         }
     }
-}
-
-fn together(blocks: &[Cut], prices: &Prices) -> Vec<Result<Palette, Refusal>> {
-    answers(blocks, |strip, answer| strip.search(prices, answer))
-}
-
-fn separately(blocks: &[Cut], prices: &Prices) -> Vec<Result<Palette, Refusal>> {
-    answers(blocks, |strip, answer| strip.search_each(prices, answer))
-}
-
-fn answers(
-    blocks: &[Cut],
-    search: impl Fn(&mut Strip, &mut dyn FnMut(Answer<'_>)),
-) -> Vec<Result<Palette, Refusal>> {
-    let mut all = Vec::with_capacity(blocks.len());
-    let blocks: Vec<&Cut> = blocks.iter().collect();
-    for strip in blocks.chunks(MAX_STRIP) {
-        search(&mut Strip::of(strip), &mut |answer| {
-            all.push(answer.map(|palette| palette.to_palette()));
-        });
-    }
-    all
 }

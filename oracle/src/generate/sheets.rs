@@ -23,15 +23,13 @@ pub struct Cut {
 
 /// Left upper corners of the blocks of a side, row by row.
 pub fn corners(side: usize) -> impl Iterator<Item = (usize, usize)> {
-    rows_of_corners((side, side)).flatten()
+    corners_of((side, side))
 }
 
-/// Those of blocks of a width and a height, a row of the sheet at a time.
-pub fn rows_of_corners(
-    (width, height): (usize, usize),
-) -> impl Iterator<Item = impl Iterator<Item = (usize, usize)>> {
+/// Those of blocks of a width and a height.
+pub fn corners_of((width, height): (usize, usize)) -> impl Iterator<Item = (usize, usize)> {
     let rows = (0..HEIGHT).step_by(height);
-    rows.map(move |y| (0..WIDTH).step_by(width).map(move |x| (x, y)))
+    rows.flat_map(move |y| (0..WIDTH).step_by(width).map(move |x| (x, y)))
 }
 
 impl Sheet {
