@@ -16,7 +16,7 @@ use Rattle.accept.specs.declared.Palette.{Palette}
 use Rattle.accept.specs.Answer.{refusedBy}
 use Rattle.search.specs.Search.{Searches}
 use Rattle.strip.specs.declared.Places.{Places}
-use Rattle.strip.specs.Strip.{blockAt, cellsAt, linesAt, partOf, Separate, Searched}
+use Rattle.strip.specs.Strip.{blockAt, cellsAt, linesAt, Separate, Searched}
 use Rattle.strip.specs.Steps.{placesTo, SearchesAt}
 
 all-same : (n i : ℕ) (x : Palette) → getD (replicate n x) i x ≡ x

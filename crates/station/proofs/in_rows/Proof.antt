@@ -1,7 +1,7 @@
-use mathlib.Core.Path.{_≡_, refl, sym, subst, _∙_}
-use Prim.Native.Nat.{_*_, _≤_, _<_, _-_}
+use mathlib.Core.Path.{refl, subst}
+use Prim.Native.Nat.{_≤_, _<_, _-_}
 use native.Mathlib.Omega.{arith}
-use lib.ListN.{length, set, length-set}
+use lib.ListN.{length, length-set}
 use borrow.Author.Needs.{needs}
 use Rattle.accept.specs.declared.Palette.{Palette}
 use Rattle.accept.specs.Answer.{refusedBy}
@@ -29,7 +29,8 @@ in-fields-requires c κs =
     let l = c .before .before .before .loop in
     let a = c .before .before .before .before .args .t1 in
     let inside : l .i < length a = search needs in
-    subst (λ (p : Palette). p .n ≤ 8) (any a (l .i) (refusedBy 0) _ inside) (c .before .before .before .before .pre (l .i) (c .before .before .loop-test .taken))
+    subst (λ (p : Palette). p .n ≤ 8) (any a (l .i) (refusedBy 0) _ inside)
+    (c .before .before .before .before .pre (l .i) (c .before .before .loop-test .taken))
 
 mul-at : tie.Need-mul-at Inv-loop μ-loop
 mul-at c = search needs
@@ -59,7 +60,9 @@ part-rows-start : tie.Need-part-rows-start Inv-loop μ-loop
 part-rows-start c = omega (arith, c .before .before .before .before .loop-test .taken)
 
 part-rows-end : tie.Need-part-rows-end Inv-loop μ-loop
-part-rows-end c = let h = c .before .before .before .before .before .loop .inv .count in simp length-set (omega (arith, c .before .before .before .before .loop-test .taken))
+part-rows-end c =
+    let count = c .before .before .before .before .before .loop .inv .count in
+    simp length-set (omega (arith, c .before .before .before .before .loop-test .taken))
 
 copy-words-requires : tie.Need-copy-words-requires Inv-loop μ-loop
 copy-words-requires c κs =

@@ -42,8 +42,7 @@ unfolding stripNumber
 returns-2 c = rw (some (c .before .before), fails _ _ (c .before .sides-ok .ensures) (c .if2 .taken)) refl
 
 places-of-requires : tie.Need-places-of-requires
-places-of-requires c κs =
-    (each c, some (c .before .before))
+places-of-requires c κs = (each c, some (c .before .before))
 
 returns-3 : tie.Need-returns-3
 unfolding stripNumber
@@ -55,7 +54,12 @@ returns-4 : tie.Need-returns-4
 unfolding stripNumber
 returns-4 c =
     let r = c .before .before .before .before in
-    rw (some (c .before .before .before .before .before .before .before), each (c .before .before .before .before .before), eq-eqb _ _ (c .before .before .if3 .left ∙ cells r), lt-leb _ _ (rw (cells r) at (c .if4 .taken))) refl
+    rw (
+      some (c .before .before .before .before .before .before .before),
+      each (c .before .before .before .before .before),
+      eq-eqb _ _ (c .before .before .if3 .left ∙ cells r),
+      lt-leb _ _ (rw (cells r) at (c .if4 .taken)),
+    ) refl
 
 returns-5 : tie.Need-returns-5
 unfolding stripNumber

@@ -1,6 +1,5 @@
-use mathlib.Core.Path.{_≡_, refl, ap, _∙_}
-use Prim.Native.Nat.{_≤_, _-_}
-use native.Mathlib.Nat.{le-trans}
+use mathlib.Core.Path.{_≡_, refl, _∙_}
+use Prim.Native.Nat.{_≤_, _<_, _-_}
 use native.Mathlib.Omega.{arith}
 use denote.Ref.{now}
 use borrow.Author.Needs.{needs}
@@ -8,7 +7,7 @@ use lib.ListN.{length, length-set}
 use Rattle.lists.specs.Counted.{total}
 use Rattle.strip.specs.Strip.{blocksIn, blockAt, Searched}
 use Rattle.strip.specs.Steps.{placesTo, Fits}
-use Rattle.strip.proofs.Sides.{Ready, ready-of, few, fits-at, places-more}
+use Rattle.strip.proofs.Sides.{ready-of, few, fits-at, places-more}
 use Rattle.strip.proofs.Turn.{nothing, turn-at}
 use Rattle.strip.proofs.search_all.Statement.{statement}
 use Rattle.strip.proofs.search_all.Tie as tie
@@ -27,11 +26,13 @@ start c = c .before .before .before .before .before .before .before .before .bef
 -- the places of the block at hand lie within the buffers
 here : (c : tie.In-loop Inv-loop μ-loop) → let a = start c .args in
     let l = c .before .loop in
-    Fits (blockAt (now (a .sides)) (a .bd) (a .lambda) (l .i)) (placesTo (now (a .sides)) (l .i)) (length (now (a .samples))) (length (l .map)) (length (l .flags))
+    Fits (blockAt (now (a .sides)) (a .bd) (a .lambda) (l .i)) (placesTo (now (a .sides)) (l .i)) (length (now (a .samples)))
+    (length (l .map)) (length (l .flags))
 here c =
     let a = start c .args in
     let l = c .before .loop in
-    rw (l .inv .1, l .inv .2) (fits-at (now (a .sides)) _ _ _ (start c .pre) (a .bd) (a .lambda) (l .i) (c .loop-test .taken))
+    let inside : l .i < blocksIn (now (a .sides)) = omega (arith, c .loop-test .taken) in
+    rw (l .inv .1, l .inv .2) (fits-at (now (a .sides)) _ _ _ (start c .pre) (a .bd) (a .lambda) (l .i) inside)
 
 most : (c : tie.In-loop Inv-loop μ-loop) → blocksIn (now (start c .args .sides)) ≤ 64
 most c =
@@ -53,7 +54,8 @@ loop-holds c =
       refl,
       refl,
       refl,
-      nothing (now (a .sides)) (now (a .samples)) (now (a .costs)) (a .bd) (a .lambda) (now (a .map)) (now (a .flags)) (c .refuse .result) 64 (c .refuse .ensures),
+      nothing (now (a .sides)) (now (a .samples)) (now (a .costs)) (a .bd) (a .lambda) (now (a .map)) (now (a .flags)) _ 64
+          (c .refuse .ensures),
     )
 
 mul-width : tie.Need-mul-width Inv-loop μ-loop
@@ -129,7 +131,8 @@ same-length-2 c = c .before .loop .inv .2
 returns : tie.Need-returns Inv-loop μ-loop
 returns c =
     let l = c .before .loop in
-    let e : l .i ≡ blocksIn (now (c .before .before .before .before .before .before .before .before .before .args .sides)) = omega (arith, l .inv .0, c .loop-test .left) in
+    let a = c .before .before .before .before .before .before .before .before .before .args in
+    let e : l .i ≡ blocksIn (now (a .sides)) = omega (arith, l .inv .0, c .loop-test .left) in
     rw e at (l .inv .5)
 
 pub search-all-spec : {M : Type 1} → statement M
