@@ -111,6 +111,11 @@ fn one_to_64_blocks() {
         let answers = search_strip(&alone, 0.0, &FREE);
         assert_eq!(answers, Err(Refusal::BLOCK_COUNT));
     }
+    // No depth has more than 64 here.
+    let mut alone = vec![block(&samples[..16], 16, 1); 65];
+    alone[30].bd = 10;
+    let answers = search_strip(&alone, 0.0, &FREE);
+    assert_eq!(answers, Err(Refusal::BLOCK_COUNT));
     let many = vec![[16, 1]; 100_000];
     let many = Blocks {
         sides: &many,

@@ -202,7 +202,7 @@ fn search_shares(
     next: &AtomicUsize,
     sender: Sender<Ended>,
 ) {
-    let mut room = Room::new(shares.in_strip(), settings.side);
+    let mut room = Room::new(shares.in_strip, settings.side);
     loop {
         let place = next.fetch_add(1, Ordering::Relaxed);
         if place >= shares.count() {

@@ -11,6 +11,8 @@ pub(super) struct Shares {
     side: usize,
     /// The most blocks in a share.
     blocks: usize,
+    /// The most blocks in a strip.
+    pub(super) in_strip: usize,
     /// How many shares a row has.
     pub(super) in_row: usize,
     /// How many rows of blocks there are.
@@ -24,9 +26,14 @@ const FOR_EACH: usize = 4;
 /// For more threads than these no row is cut into more parts.
 const MOST_THREADS: usize = 256;
 
+/// The most cells of a strip. Large blocks gain nothing by a longer one, whose samples and maps would
+/// not stay in the cache beside the core: with 39 blocks of 64 by 64 a sheet took 2 in 100 longer.
+const MOST_CELLS: usize = 1 << 16;
+
 impl Shares {
-    /// Whole rows, unless these are too few for the threads. Rows are more than strips where blocks
-    /// are small, and each share that is ended wakes the thread that puts them together.
+    /// Whole rows, unless these are too few for the threads. Each share that is ended wakes the
+    /// thread that puts them together: were each strip of 64 blocks of one sample a share, a sheet
+    /// would take 1.7 times as long.
     pub(super) fn new((width, height): (usize, usize), side: usize, threads: usize) -> Shares {
         let (columns, rows) = (width.div_ceil(side), height.div_ceil(side));
         let parts = (FOR_EACH * threads.clamp(1, MOST_THREADS)).div_ceil(rows);
@@ -35,6 +42,7 @@ impl Shares {
             sides: (width, height),
             side,
             blocks,
+            in_strip: blocks.min(MAX_STRIP).min(MOST_CELLS / (side * side)),
             in_row: columns.div_ceil(blocks),
             rows,
         }
@@ -52,16 +60,11 @@ impl Shares {
         let (row, part) = (place / self.in_row, place % self.in_row);
         let (left, right) = (part * self.blocks, (part + 1) * self.blocks);
         let right = self.sides.0.min(right * self.side);
-        let step = MAX_STRIP * self.side;
+        let step = self.in_strip * self.side;
         (left * self.side..right).step_by(step).map(move |x| {
             let columns = x..right.min(x + step);
             area::in_row(self.sides, self.side, row * self.side, columns)
         })
-    }
-
-    /// The most blocks in a strip.
-    pub(super) fn in_strip(self) -> usize {
-        self.blocks.min(MAX_STRIP)
     }
 }
 

@@ -41,9 +41,9 @@ fn strips_have_all_blocks_in_their_order() {
 #[test]
 fn strips_are_of_one_row_and_no_longer_than_they_may() {
     for_all(|shares, _, _, _| {
-        assert!(shares.in_strip() <= MAX_STRIP);
+        assert!(shares.in_strip <= MAX_STRIP);
         let strips = all_strips(shares).inspect(|strip| {
-            assert!((1..=shares.in_strip()).contains(&strip.len()));
+            assert!((1..=shares.in_strip).contains(&strip.len()));
             assert!(strip.iter().all(|area| area.y == strip[0].y));
         });
         assert!(strips.count() >= shares.count());
@@ -70,6 +70,18 @@ fn each_thread_has_a_share_where_there_are_blocks_enough() {
     });
     // One row of 39 blocks.
     assert_eq!(Shares::new((2480, 64), 64, 2).count(), 8);
+}
+
+/// Small blocks come 64 in a strip, large ones fewer.
+#[test]
+fn how_long_strips_are() {
+    for (side, due) in [(1, 64), (16, 64), (32, 64), (33, 60), (64, 16)] {
+        assert_eq!(
+            Shares::new((10_000, 1000), side, 2).in_strip,
+            due,
+            "side {side}"
+        );
+    }
 }
 
 /// Where the rows are enough none is cut: 55 rows, and 3,508 of 2,480 blocks each.
