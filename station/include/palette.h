@@ -156,18 +156,19 @@ static inline uint32_t palette_search_default_env(
  * Finds the palettes of a strip: up to 64 blocks of one depth. `sides` holds width and height of
  * each block, `numbers` of them, which is twice the count of blocks; `samples` holds the blocks'
  * samples one block after the other, `count` in all. bd, lambda and costs are as palette_search
- * takes them, for all blocks. A block's map and flags have their places behind those of the block
- * before it: width x height in `map`, and the longer side in `flags`. The rooms are for all blocks.
+ * takes them, and for all blocks. A block's map and flags have their places behind those of the
+ * block before it: width x height in `map`, the longer side in `flags`. The rooms are for all.
  *
- * Returns 0, or for the strip as a whole 19, 1 if any side is outside 1..64, 3 if `count` is not the
- * sum of width x height, 7 if a room is below the sum of its places, tested in this order. Writes
- * `answers`, eleven numbers a block: its own number, and n, eight colours and orientation as
- * palette_search has them in `found`; and `bits`, its estimate. Both are 0 past the last block.
+ * Returns 0, or for the strip as a whole 19, 1 if any side is outside 1..64, 3 if `count` is not
+ * the sum of width x height, 7 if a room is below the sum of its places, tested in this order.
+ * Writes `answers`, eleven numbers a block: its own number, then n, eight colours and orientation
+ * as palette_search has them in `found`; and `bits`, its estimate. Both are 0 past the last block,
+ * and throughout where the strip is refused: look at what is returned first.
  *
- * Where it returns 0, each block has the number, the fields and in its places the map and the flags
- * that palette_search gives it alone, with its samples and exactly its places as rooms. So a fault
- * of bd, lambda or costs is every block's own number. A refused block has 0 in all other fields, its
- * places are as they were, and the other blocks go on.
+ * Where that is 0, each block has the number and the fields, and in its places the map and the
+ * flags, that palette_search gives it alone with its samples and exactly its places as rooms. So a
+ * fault of bd, lambda or costs is every block's own number. A refused block has 0 in its other
+ * fields, its places are as they were, and the other blocks go on.
  */
 uint32_t palette_strip(const size_t *sides, size_t numbers, const float *samples, size_t count,
                        uint32_t bd, float lambda, const float *costs, size_t entries,
