@@ -26,10 +26,6 @@ const FOR_EACH: usize = 4;
 /// For more threads than these no row is cut into more parts.
 const MOST_THREADS: usize = 256;
 
-/// The most cells of a strip. Large blocks gain nothing by a longer one, whose samples and maps would
-/// not stay in the cache beside the core: with 39 blocks of 64 by 64 a sheet took 2 in 100 longer.
-const MOST_CELLS: usize = 1 << 16;
-
 impl Shares {
     /// Whole rows, unless these are too few for the threads. Each share that is ended wakes the
     /// thread that puts them together: were each strip of 64 blocks of one sample a share, a sheet
@@ -42,7 +38,7 @@ impl Shares {
             sides: (width, height),
             side,
             blocks,
-            in_strip: blocks.min(MAX_STRIP).min(MOST_CELLS / (side * side)),
+            in_strip: blocks.min(MAX_STRIP),
             in_row: columns.div_ceil(blocks),
             rows,
         }

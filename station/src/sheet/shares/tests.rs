@@ -72,16 +72,14 @@ fn each_thread_has_a_share_where_there_are_blocks_enough() {
     assert_eq!(Shares::new((2480, 64), 64, 2).count(), 8);
 }
 
-/// Small blocks come 64 in a strip, large ones fewer.
+/// Up to 64 blocks, or all that a part has: 39 blocks, and 5 of a row that is cut into eight.
 #[test]
 fn how_long_strips_are() {
-    for (side, due) in [(1, 64), (16, 64), (32, 64), (33, 60), (64, 16)] {
-        assert_eq!(
-            Shares::new((10_000, 1000), side, 2).in_strip,
-            due,
-            "side {side}"
-        );
-    }
+    let in_strip = |sides, side, threads| Shares::new(sides, side, threads).in_strip;
+    assert_eq!(in_strip((2480, 3508), 1, 2), 64);
+    assert_eq!(in_strip((2480, 3508), 38, 2), 64);
+    assert_eq!(in_strip((2480, 3508), 64, 2), 39);
+    assert_eq!(in_strip((2480, 64), 64, 2), 5);
 }
 
 /// Where the rows are enough none is cut: 55 rows, and 3,508 of 2,480 blocks each.
