@@ -69,12 +69,12 @@ fn drawn(random: &mut Random, seed: u64, index: u64) -> (StripRequest, StripKind
     (request, kinds)
 }
 
-/// Long strips, and one with a block of 64 by 64, stand at fixed places, so that there are few;
-/// so do close ones, at the end of a group, as they have costs of their own.
+/// Long strips, and one with a great block, stand at fixed places, so that there are few; so do
+/// close ones, at the end of a group, as they have costs of their own.
 fn shape(random: &mut Random, index: u64) -> (Length, Sizes) {
     let length = random.pick(&[Length::One, Length::Few]);
     match index % 64 {
-        1 if index == 65 => (length, Sizes::OneGreat),
+        35 if index == 35 => (length, Sizes::OneGreat),
         5 => (Length::All, Sizes::Tiny),
         21 => (Length::All, Sizes::Thin),
         37 => (Length::Some, Sizes::Small),
