@@ -5,10 +5,11 @@ use crate::limits::{MAX_LINES, MAX_SIDE, MAX_STRIP};
 use crate::{Block, Costs, Palette, PaletteView, Refusal};
 use std::iter::FusedIterator;
 use std::ops::Range;
+use std::vec;
 
-/// Finds the palettes of up to 64 blocks, in their order. Each answer is the one that
-/// [`search`](crate::search) gives for that block alone, and where a block is refused the others
-/// go on.
+/// Finds the palettes of up to 64 blocks and goes through the answers, in their order. Each is the
+/// one that [`search`](crate::search) gives for that block alone, and where a block is refused the
+/// others go on.
 ///
 /// The strip as a whole is refused by 19 for no block or more than 64, by 1 for a side outside
 /// 1..64 in any block, by 3 unless each block has width × height samples, tested in this order.
@@ -28,29 +29,31 @@ use std::ops::Range;
 /// };
 /// let blocks = [block(48, 16, 2, 8), block(64, 16, 4, 8), block(0, 2, 64, 10)];
 /// let answers = search_strip(&blocks, 60.0, &Costs::default())?;
-/// for (block, answer) in blocks.iter().zip(&answers) {
+/// assert_eq!(answers.len(), 3);
+/// for (block, answer) in blocks.iter().zip(answers.clone()) {
 ///     match answer {
-///         Ok(palette) => println!("{} calls", list(palette, &[])?.words.len()),
+///         Ok(palette) => println!("{} calls", list(&palette, &[])?.words.len()),
 ///         Err(refusal) => println!("{} by {}: {refusal}", block.width, block.height),
 ///     }
 /// }
-/// assert!(answers[0].is_ok() && answers[2].is_ok());
-/// assert_eq!(answers[1], Err(Refusal::ONE_LEVEL));
+/// let refused: Vec<Option<Refusal>> = answers.map(Result::err).collect();
+/// assert_eq!(refused, [None, Some(Refusal::ONE_LEVEL), None]);
 ///
-/// assert_eq!(search_strip(&[], 60.0, &Costs::default()), Err(Refusal::BLOCK_COUNT));
+/// let none = search_strip(&[], 60.0, &Costs::default());
+/// assert_eq!(none.err(), Some(Refusal::BLOCK_COUNT));
 /// # Ok::<(), Refusal>(())
 /// ```
 pub fn search_strip(
     blocks: &[Block<'_>],
     lambda: f32,
     costs: &Costs,
-) -> Result<Vec<Result<Palette, Refusal>>, Refusal> {
+) -> Result<vec::IntoIter<Result<Palette, Refusal>>, Refusal> {
     check(blocks)?;
     let mut answers = Vec::with_capacity(blocks.len());
     for run in blocks.chunk_by(|block, next| block.bd == next.bd) {
         search_run(run, lambda, costs, &mut answers)?;
     }
-    Ok(answers)
+    Ok(answers.into_iter())
 }
 
 /// What refuses a strip as a whole. The archive tests the same, but of the samples it has only

@@ -245,7 +245,7 @@ fn strips() {
         found += due.iter().flatten().count();
         for (name, mode) in MODES {
             let answers = under(mode, || search_strip(&blocks, lambda, costs)).unwrap();
-            let answers: Vec<_> = answers.into_iter().map(bitwise).collect();
+            let answers: Vec<_> = answers.map(bitwise).collect();
             assert_eq!(answers, due, "strip {place}, {name}");
         }
     }

@@ -68,7 +68,7 @@ fn strip_1_3_7_and_19() {
     assert_eq!(strip_number(|blocks, _| blocks.sides = &[[1, 1]; 65]), 19);
     assert_eq!(strip_number(|blocks, _| blocks.sides = &[]), 19);
     let none = search_strip(&[], 60.0, &Costs::default());
-    assert_eq!(none, Err(Refusal::BLOCK_COUNT));
+    assert_eq!(none.err(), Some(Refusal::BLOCK_COUNT));
 }
 
 fn list_number(cache: &[u16], change: impl FnOnce(&mut Palette)) -> u32 {

@@ -101,21 +101,21 @@ fn one_to_64_blocks() {
         let (said, ..) = with_rooms(&of(count), (0.0, &FREE), ENOUGH);
         assert_eq!(said, Ok(vec![0; count]));
         let alone = vec![block(&samples[..16], 16, 1); count];
-        let answers = search_strip(&alone, 0.0, &FREE).unwrap();
+        let mut answers = search_strip(&alone, 0.0, &FREE).unwrap();
         assert_eq!(answers.len(), count);
-        assert!(answers.iter().all(Result::is_ok));
+        assert!(answers.all(|answer| answer.is_ok()));
     }
     for count in [0, 65] {
         refused(&of(count), ENOUGH, Refusal::BLOCK_COUNT);
         let alone = vec![block(&samples[..16], 16, 1); count];
         let answers = search_strip(&alone, 0.0, &FREE);
-        assert_eq!(answers, Err(Refusal::BLOCK_COUNT));
+        assert_eq!(answers.err(), Some(Refusal::BLOCK_COUNT));
     }
     // No depth has more than 64 here.
     let mut alone = vec![block(&samples[..16], 16, 1); 65];
     alone[30].bd = 10;
     let answers = search_strip(&alone, 0.0, &FREE);
-    assert_eq!(answers, Err(Refusal::BLOCK_COUNT));
+    assert_eq!(answers.err(), Some(Refusal::BLOCK_COUNT));
     let many = vec![[16, 1]; 100_000];
     let many = Blocks {
         sides: &many,
@@ -145,7 +145,7 @@ fn a_side_out_of_range_anywhere_is_1() {
             };
             refused(&blocks, ENOUGH, Refusal::SIDE);
             let alone = sides.map(|[width, height]| block(&samples[..16], width, height));
-            assert_eq!(search_strip(&alone, 0.0, &FREE), Err(Refusal::SIDE));
+            assert_eq!(search_strip(&alone, 0.0, &FREE).err(), Some(Refusal::SIDE));
         }
     }
 }
@@ -182,7 +182,7 @@ fn each_blocks_own_count_of_samples() {
     for strip in strips {
         let counts: Vec<usize> = strip.iter().map(|block| block.samples.len()).collect();
         let answers = search_strip(&strip, 0.0, &FREE);
-        assert_eq!(answers, Err(Refusal::SAMPLE_COUNT), "{counts:?}");
+        assert_eq!(answers.err(), Some(Refusal::SAMPLE_COUNT), "{counts:?}");
     }
     assert!(search_strip(&[of(32), of(32)], 0.0, &FREE).is_ok());
 }
@@ -227,7 +227,7 @@ fn tests_come_in_their_order_for_blocks() {
         Err(refusal) => (refusal.number(), vec![]),
         Ok(answers) => {
             let number = |answer: Result<_, Refusal>| answer.map_or_else(Refusal::number, |_| 0);
-            (0, answers.into_iter().map(number).collect::<Vec<u32>>())
+            (0, answers.map(number).collect::<Vec<u32>>())
         }
     };
     let (wrong, dear) = ([f32::NAN; 17], Costs::from_table([33.0; 301]));
@@ -300,14 +300,20 @@ fn blocks_too_large_to_gather() {
         height: 1,
         bd: 8,
     };
-    assert_eq!(search_strip(&[large; 64], 0.0, &FREE), Err(Refusal::SIDE));
+    assert_eq!(
+        search_strip(&[large; 64], 0.0, &FREE).err(),
+        Some(Refusal::SIDE)
+    );
     let count = vec![large; 1 << 16];
-    assert_eq!(search_strip(&count, 0.0, &FREE), Err(Refusal::BLOCK_COUNT));
+    assert_eq!(
+        search_strip(&count, 0.0, &FREE).err(),
+        Some(Refusal::BLOCK_COUNT)
+    );
     let wrong = Block {
         width: 64,
         height: 64,
         ..large
     };
     let answers = search_strip(&[wrong; 64], 0.0, &FREE);
-    assert_eq!(answers, Err(Refusal::SAMPLE_COUNT));
+    assert_eq!(answers.err(), Some(Refusal::SAMPLE_COUNT));
 }

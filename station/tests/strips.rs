@@ -152,7 +152,7 @@ fn blocks_of_different_depths_have_what_they_have_alone() {
     for place in 0..cases(200) {
         let case = case_of_depths(&mut random);
         let answers = search_strip(&case.blocks(), case.lambda, &case.costs).unwrap();
-        let answers: Vec<Bitwise> = answers.into_iter().map(bitwise).collect();
+        let answers: Vec<Bitwise> = answers.map(bitwise).collect();
         let due = case.one_by_one();
         assert_eq!(answers, due, "strip {place}");
         let found = due.iter().flatten().map(|(palette, _)| palette.bd);
