@@ -1,5 +1,5 @@
-use mathlib.Core.Path.{refl}
-use Prim.Native.Nat.{_*_, _≤_}
+use mathlib.Core.Path.{_≡_, refl}
+use Prim.Native.Nat.{_*_, _≤_, max}
 use native.Mathlib.Nat.{mul-le-mul}
 use native.Mathlib.Omega.{arith}
 use borrow.Author.Needs.{needs}
@@ -22,7 +22,10 @@ add-t7 : tie.Need-add-t7
 add-t7 c = search needs
 
 returns : tie.Need-returns
-returns c = rw (c .before .longer .ensures) refl
+returns c =
+    let a = c .before .before .before .args in
+    let longest : c .before .longer .result ≡ max (a .width) (a .height) = c .before .longer .ensures in
+    rw longest refl
 
 pub past-spec : {M : Type 1} → statement M
 past-spec = tie.close (tie.spec mul-t4 add-t5 longer-requires add-t7 returns)
