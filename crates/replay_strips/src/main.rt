@@ -17,6 +17,7 @@ use replaying::print_answer;
 use replaying::print_number;
 use replaying::read_pairs;
 use replaying::size;
+use strip::Places;
 use strip::Strip;
 ghost use mathlib.Core.Path.{_≡_};
 ghost use Prim.Native.Nat.{_<_, _≤_};
@@ -34,12 +35,6 @@ pub struct StripHead {
     pub costs: usize,
     pub lambda: f32,
     pub again: bool,
-}
-
-// Where a block's part begins or ends: in samples and map, and in flags.
-pub struct Places {
-    pub cells: usize,
-    pub lines: usize,
 }
 
 fn head_of(head: &[u8; 16], got: usize) -> StripHead
