@@ -2,3 +2,4 @@ pub mod At
 pub mod Sides
 pub mod Turn
 pub mod Same
+pub mod Examples

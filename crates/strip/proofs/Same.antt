@@ -1,6 +1,6 @@
 -- The blocks of a strip beside separate calls. Assumes nothing.
 use mathlib.Core.Path.{_≡_, refl, sym, _∙_}
-use mathlib.Core.Bool.{Bool, true, false, cond, not}
+use mathlib.Core.Bool.{true, false, not}
 use mathlib.Core.List.{List}
 use Prim.Native.Nat.{ℕ, _+_, _*_, _≤_, _<_}
 use native.Mathlib.Nat.{le-of-eq}
@@ -9,7 +9,7 @@ use lib.Dec.{eqb, ltb}
 use lib.ListN.{length, getD, drop, length-drop}
 use lib.Seq.{length-take-le}
 use lib.Ieee.{Float}
-use borrow.Author.Tests.{eq-eqb, eqb-true, eqb-false, le-leb}
+use borrow.Author.Tests.{eq-eqb, eqb-false, le-leb}
 use Rattle.lists.specs.Counted.{within, part, total}
 use Rattle.lists.proofs.Choice.{either-way, and-both}
 use Rattle.lists.proofs.Counted.{allIn-at}
@@ -67,16 +67,10 @@ module _ (samples costs : List Float) (b : Block) (cells lines : ℕ) (sides : s
       either-way Own (eqb (faultOf samples costs b cells lines) 0) (levelsFault n) _
       (either-way Own (ltb n 2) 9 _ (own 9 refl refl refl) (either-way Own (ltb 32 n) 10 0 (own 10 refl refl refl) (own 0 refl refl refl))) own-fault
 
-answer-number : (samples costs : List Float) (b : Block) (cells lines : ℕ)
-    → answerOf samples costs b cells lines .number ≡ searchNumber samples costs b cells lines
-answer-number samples costs b cells lines = go (searchNumber samples costs b cells lines) (paletteBy (foundIn samples costs b .best)) refl
-  where
-    go : (k : ℕ) (p : Palette) → p .number ≡ 0 → cond (eqb k 0) p (refusedBy k) .number ≡ k
-    go k p z = by (eqb k 0) refl
-      where
-        by : (t : Bool) → eqb k 0 ≡ t → cond t p (refusedBy k) .number ≡ k
-        by true e = z ∙ sym (eqb-true k 0 e)
-        by false e = refl
+  own-answer : Own (answerOf samples costs b cells lines .number)
+  own-answer =
+      either-way (λ (p : Palette). Own (p .number)) (eqb (searchNumber samples costs b cells lines) 0) (paletteBy (foundIn samples costs b .best)) _
+      (own 0 refl refl refl) own-number
 
 length-part : {A : Type 0} (l : List A) (at size : ℕ) → at + size ≤ length l → length (part l at size) ≡ size
 length-part l at size h = length-take-le size (drop at l) (simp length-drop (omega arith))
@@ -92,8 +86,8 @@ never-one-three-seven sides samples costs bd lambda map₀ map flags₀ flags r 
     let sampled = length-part samples (total (cellsAt sides) i) (cellsAt sides i) (fits .sampled) in
     let mapped = length-part map₀ (total (cellsAt sides) i) (cellsAt sides i) (fits .mapped) in
     let lined = length-part flags₀ (total (linesAt sides) i) (linesAt sides i) (fits .lined) in
-    rw (block sides samples costs bd lambda map₀ map flags₀ flags r s z i h .answer, answer-number (partOf (cellsAt sides) samples i) costs b _ _)
-    (own-number (partOf (cellsAt sides) samples i) costs b _ _
+    rw (block sides samples costs bd lambda map₀ map flags₀ flags r s z i h .answer)
+    (own-answer (partOf (cellsAt sides) samples i) costs b _ _
     (and-both _ _ (within-at (2 * i) (omega arith)) (within-at (2 * i + 1) (omega arith)))
     (eq-eqb _ _ sampled)
     (and-both _ _ (le-leb _ _ (le-of-eq (sym mapped))) (le-leb _ _ (le-of-eq (sym lined)))))

@@ -14,7 +14,6 @@ use Rattle.lists.proofs.Parts.{front-same, behind-same, total-more, total-withi
 use Rattle.sizes.specs.declared.Block.{Block}
 use Rattle.accept.specs.declared.Palette.{Palette}
 use Rattle.accept.specs.Answer.{refusedBy}
-use Rattle.search.specs.Search.{Searches}
 use Rattle.strip.specs.declared.Places.{Places}
 use Rattle.strip.specs.Strip.{blockAt, cellsAt, linesAt, Separate, Searched}
 use Rattle.strip.specs.Steps.{placesTo, SearchesAt}
@@ -30,10 +29,6 @@ pub nothing : (sides : List ℕ) (samples costs : List Float) (bd : ℕ) (lambda
 unfolding upTo total
 nothing sides samples costs bd lambda map flags x n e =
     record { blocks = λ i h. absurd (omega arith); others = λ i h. rw e (all-same n i (refusedBy 0)); cells = refl; signs = refl }
-
-searches-same : (samples costs : List Float) (b : Block) (map₀ m m′ flags₀ f f′ : List ℕ) (r r′ : Palette)
-    → m′ ≡ m → f′ ≡ f → r′ ≡ r → Searches samples costs b map₀ m flags₀ f r → Searches samples costs b map₀ m′ flags₀ f′ r′
-searches-same samples costs b map₀ m m′ flags₀ f f′ r r′ p q e s = rw (p, q, e) s
 
 module _ (sides : List ℕ) (samples costs : List Float) (bd : ℕ) (lambda : Float) (map₀ map flags₀ flags : List ℕ)
     (i : ℕ) (answers : List Palette) (room : i < length answers) (s : Searched sides samples costs bd lambda map₀ map flags₀ flags i answers)
@@ -51,11 +46,11 @@ module _ (sides : List ℕ) (samples costs : List Float) (bd : ℕ) (lambda : Fl
   module _ (m f : List ℕ) (r : Palette) (t : SearchesAt samples costs (blockAt sides bd lambda i) (placesTo sides i) map m flags f r) where
     earlier : (k : ℕ) → k < i → Separate sides samples costs bd lambda map₀ m flags₀ f k (getD (set answers i r) k none)
     earlier k h =
-        searches-same _ _ _ _ _ _ _ _ _ _ _
-        (front-same (total (cellsAt sides) k) (cellsAt sides k) (total (cellsAt sides) i) m map (total-within (cellsAt sides) k i h) (t .cells .front))
-        (front-same (total (linesAt sides) k) (linesAt sides k) (total (linesAt sides) i) f flags (total-within (linesAt sides) k i h) (t .signs .front))
-        (getD-set-other answers i k r none (λ e. omega arith))
-        (s .blocks k h)
+        rw (
+          front-same (total (cellsAt sides) k) (cellsAt sides k) (total (cellsAt sides) i) m map (total-within (cellsAt sides) k i h) (t .cells .front),
+          front-same (total (linesAt sides) k) (linesAt sides k) (total (linesAt sides) i) f flags (total-within (linesAt sides) k i h) (t .signs .front),
+          getD-set-other answers i k r none (λ e. omega arith),
+        ) (s .blocks k h)
 
     this : Separate sides samples costs bd lambda map₀ m flags₀ f i (getD (set answers i r) i none)
     this = rw (getD-set-same answers i r none room, ← map-rest, ← flags-rest) (t .search)
