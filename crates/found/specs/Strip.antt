@@ -4,11 +4,12 @@ use mathlib.Core.List.{List}
 use Prim.Native.Nat.{ℕ, _≤_, _<_}
 use lib.ListN.{length, getD}
 use lib.Ieee.{Float}
+use Rattle.lists.specs.Counted.{partOf}
 use Rattle.accept.specs.Answer.{refusedBy}
 use Rattle.listing.specs.Listing.{callList, Lists}
 use Rattle.listing.specs.declared.Listed.{Listed}
 use Rattle.strip.specs.declared.Strip.{Strip}
-use Rattle.strip.specs.Strip.{blocksIn, blockAt, cellsAt, linesAt, partOf, Strips}
+use Rattle.strip.specs.Strip.{blocksIn, blockAt, cellsAt, linesAt, Strips}
 use Rattle.found.specs.Listed.{foundPalette, ListedWhole}
 
 -- as `FoundIsListed`, of each block whose own number is 0, with its parts of map and flags

@@ -1,7 +1,7 @@
 -- Lists made place by place, and a buffer that is filled from the front with what another list has. Assumes nothing.
-use mathlib.Core.Path.{_≡_, subst, _∙_}
+use mathlib.Core.Path.{_≡_, refl, subst, _∙_}
 use mathlib.Core.List.{List, [], _∷_}
-use Prim.Native.Nat.{ℕ, _+_, _≤_, _<_}
+use Prim.Native.Nat.{ℕ, zero, suc, _+_, _≤_, _<_}
 use native.Mathlib.Nat.{ne-of-lt}
 use native.Mathlib.Omega.{arith}
 use lib.ListN.{length, getD, set, length-set}
@@ -9,6 +9,12 @@ use lib.Seq.{getD-set-same, getD-set-other, ext-getD}
 use borrow.Author.Count.{below-more}
 use Rattle.lists.specs.Counted.{each}
 use Rattle.lists.proofs.Counted.{length-upTo, upTo-at}
+
+-- an element by any default
+pub any : {A : Type 0} (l : List A) (i : ℕ) (d e : A) → i < length l → getD l i d ≡ getD l i e
+any [] i d e h = absurd (omega arith)
+any (x ∷ xs) zero d e h = refl
+any (x ∷ xs) (suc i) d e h = any xs i d e (omega arith)
 
 module _ {A : Type 0} (d : A) where
   pub each-at : (f : ℕ → A) (n k : ℕ) → k < n → getD (each f n) k d ≡ f k

@@ -6,10 +6,10 @@ use Prim.Native.Nat.{ℕ, zero, suc, _+_, _-_, _*_, _≤_, _<_}
 use native.Mathlib.Nat.{eq-or-lt-of-le, le-of-suc-le-suc}
 use native.Mathlib.Numerals.{add-one}
 use native.Mathlib.Omega.{arith}
-use lib.ListN.{length, take, drop, length-append, take-append-drop}
+use lib.ListN.{length, take, drop, length-append, length-drop, take-append-drop}
 use lib.Seq.{take-at, drop-at, drop-drop, take-take, take-nil, take-add, length-take-le}
 use borrow.Rule.Slice.PartMut.{postOf, putMid}
-use Rattle.lists.specs.Counted.{part, upTo, total}
+use Rattle.lists.specs.Counted.{part, upTo, total, partOf}
 
 -- ---- a part that is back
 module _ {A : Type 0} (from to : ℕ) (l new : List A) (up : from ≤ to) (inside : to ≤ length l) (count : length new ≡ to - from) where
@@ -26,6 +26,9 @@ module _ {A : Type 0} (from to : ℕ) (l new : List A) (up : from ≤ to) (insid
   put-front =
       ap (take to) (sym (append-assoc (take from l) new (postOf from (to - from) l)))
       ∙ take-at (take from l ++ new) (postOf from (to - from) l) to (omega (arith, before, count, length-append (take from l) new))
+
+pub length-part : {A : Type 0} (l : List A) (at size : ℕ) → at + size ≤ length l → length (part l at size) ≡ size
+length-part l at size h = length-take-le size (drop at l) (simp length-drop (omega arith))
 
 -- ---- parts that end in the front, or begin behind it
 from-front : {A : Type 0} (a size at : ℕ) (l : List A) → a + size ≤ at → part (take at l) a size ≡ part l a size
@@ -61,17 +64,17 @@ module _ (f : ℕ → ℕ) where
   total-most most (suc n) g = omega (arith, g n (omega arith), total-most most n (λ i h. g i (omega arith)))
 
   -- all of them are the list up to the total
-  parts-front : {A : Type 0} (l : List A) (n : ℕ) → upTo (λ i. part l (total f i) (f i)) n ≡ take (total f n) l
+  parts-front : {A : Type 0} (l : List A) (n : ℕ) → upTo (partOf f l) n ≡ take (total f n) l
   unfolding upTo total
   parts-front l zero = refl
   parts-front l (suc n) = rw (parts-front l n) (sym (take-add (total f n) (f n) l))
 
   -- so a list is they and what stands behind them
   module _ {A : Type 0} (l old : List A) (n : ℕ) where
-    pub parts-then : drop (total f n) l ≡ drop (total f n) old → l ≡ upTo (λ i. part l (total f i) (f i)) n ++ drop (total f n) old
+    pub parts-then : drop (total f n) l ≡ drop (total f n) old → l ≡ upTo (partOf f l) n ++ drop (total f n) old
     parts-then e = sym (rw (parts-front l n, ← e) (take-append-drop (total f n) l))
 
-    pub behind-parts : total f n ≤ length l → l ≡ upTo (λ i. part l (total f i) (f i)) n ++ drop (total f n) old
+    pub behind-parts : total f n ≤ length l → l ≡ upTo (partOf f l) n ++ drop (total f n) old
         → drop (total f n) l ≡ drop (total f n) old
     behind-parts h e =
         ap (drop (total f n)) (e ∙ ap (λ (z : List A). z ++ drop (total f n) old) (parts-front l n))

@@ -27,6 +27,10 @@ unfoldable pub total : (ℕ → ℕ) → ℕ → ℕ
 total f zero = 0
 total f (suc n) = total f n + f n
 
+-- part i of a list whose parts stand one behind the other, each as long as `size` says
+abbrev pub partOf : {A : Type 0} → (ℕ → ℕ) → List A → ℕ → List A
+partOf size l i = part l (total size i) (size i)
+
 -- the test passes at 0, 1, .., n - 1
 unfoldable pub allBelow : (ℕ → Bool) → ℕ → Bool
 allBelow f zero = true

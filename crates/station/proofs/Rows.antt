@@ -2,7 +2,7 @@
 use mathlib.Core.Path.{_≡_, refl, sym, ap, _∙_}
 use mathlib.Core.Bool.{Bool, true, false}
 use mathlib.Core.List.{List, [], _∷_, _++_, append-assoc}
-use Prim.Native.Nat.{ℕ, zero, suc, _+_, _-_, _*_, _≤_, _<_}
+use Prim.Native.Nat.{ℕ, _+_, _-_, _*_, _≤_, _<_}
 use native.Mathlib.Nat.{le-of-eq}
 use native.Mathlib.Numerals.{add-one}
 use native.Mathlib.Omega.{arith}
@@ -23,12 +23,6 @@ use Rattle.strip.specs.Strip.{Searched}
 use Rattle.station.specs.Searched.{fieldsOf}
 use Rattle.station.specs.Strip.{rowOf, rowAt, rowsOf, Few}
 use Rattle.station.proofs.Arrays.{filled}
-
--- an element by any default
-pub any : {A : Type 0} (l : List A) (i : ℕ) (d e : A) → i < length l → getD l i d ≡ getD l i e
-any [] i d e h = absurd (omega arith)
-any (x ∷ xs) zero d e h = refl
-any (x ∷ xs) (suc i) d e h = any xs i d e (omega arith)
 
 -- the rows of the answers before the i-th stand in front
 pub record Begun (answers : List Palette) (rows : List ℕ) (i : ℕ) : Type 0 where
@@ -103,7 +97,7 @@ module _ (answers : List Palette) (rows : List ℕ) (i : ℕ) (b : Begun answers
 -- no answer of a searched strip has more than eight colours
 pub answers-few : (sides : List ℕ) (samples costs : List Float) (bd : ℕ) (lambda : Float) (map₀ map flags₀ flags : List ℕ)
     (count : ℕ) (answers : List Palette) → Searched sides samples costs bd lambda map₀ map flags₀ flags count answers → Few answers
-answers-few sides samples costs bd lambda map₀ map flags₀ flags count answers s i below = go (leb count i) refl
+answers-few sides samples costs bd lambda map₀ map flags₀ flags count answers s i = go (leb count i) refl
   where
     go : (t : Bool) → leb count i ≡ t → getD answers i (refusedBy 0) .n ≤ 8
     go true e = rw (s .others i (leb-true count i e)) (omega arith)

@@ -2,7 +2,7 @@
 -- estimates beside them.
 use mathlib.Core.Path.{_≡_}
 use mathlib.Core.List.{List, _∷_, map}
-use Prim.Native.Nat.{ℕ, _<_, _≤_}
+use Prim.Native.Nat.{ℕ, _≤_}
 use lib.ListN.{getD}
 use lib.Ieee.{Float}
 use Rattle.lists.specs.Counted.{upTo}
@@ -25,7 +25,7 @@ estimatesOf answers = map (λ (p : Palette). p .bits) answers
 
 -- no answer has more than eight colours
 abbrev pub Few : List Palette → Type 0
-Few answers = (i : ℕ) → i < 64 → getD answers i (refusedBy 0) .n ≤ 8
+Few answers = (i : ℕ) → getD answers i (refusedBy 0) .n ≤ 8
 
 pub record StripsTo (sides : List ℕ) (samples costs : List Float) (bd : ℕ) (lambda : Float) (map₀ map flags₀ flags rows : List ℕ)
     (bits : List Float) (r : ℕ) : Type 0 where

@@ -3,3 +3,4 @@ pub mod Sides
 pub mod Turn
 pub mod Same
 pub mod Examples
+pub mod Once

@@ -2,17 +2,17 @@
 use mathlib.Core.Path.{_≡_, refl, sym, _∙_}
 use mathlib.Core.Bool.{true, false, not}
 use mathlib.Core.List.{List}
-use Prim.Native.Nat.{ℕ, _+_, _*_, _≤_, _<_}
+use Prim.Native.Nat.{ℕ, _+_, _*_, _<_}
 use native.Mathlib.Nat.{le-of-eq}
 use native.Mathlib.Omega.{arith}
 use lib.Dec.{eqb, ltb}
-use lib.ListN.{length, getD, drop, length-drop}
-use lib.Seq.{length-take-le}
+use lib.ListN.{length, getD}
 use lib.Ieee.{Float}
 use borrow.Author.Tests.{eq-eqb, eqb-false, le-leb}
-use Rattle.lists.specs.Counted.{within, part, total}
+use Rattle.lists.specs.Counted.{within, total, partOf}
 use Rattle.lists.proofs.Choice.{either-way, and-both}
 use Rattle.lists.proofs.Counted.{allIn-at}
+use Rattle.lists.proofs.Parts.{length-part}
 use Rattle.samples.specs.Samples.{lambdaOk, costsOk, samplesOk}
 use Rattle.sizes.specs.declared.Block.{Block}
 use Rattle.accept.specs.declared.Palette.{Palette}
@@ -20,12 +20,12 @@ use Rattle.accept.specs.Accepted.{sidesOk, depthOk}
 use Rattle.accept.specs.Answer.{roomsOk, refusedBy}
 use Rattle.search.specs.Search.{histogramIn, foundIn, largeOk, faultOf, levelsFault, searchNumber, paletteBy, answerOf, Searches}
 use Rattle.strip.specs.declared.Strip.{Strip}
-use Rattle.strip.specs.Strip.{blocksIn, blockAt, cellsAt, linesAt, partOf, Separate, Strips}
+use Rattle.strip.specs.Strip.{blocksIn, blockAt, cellsAt, linesAt, Separate, Strips}
 use Rattle.strip.specs.Same.{SameAsSeparate, NeverOneThreeSeven}
 use Rattle.strip.proofs.Sides.{ready-of, fits-at}
 
 -- what a search answers and leaves is settled by what it is given
-searches-once : (samples costs : List Float) (b : Block) (map₀ m m′ flags₀ f f′ : List ℕ) (r r′ : Palette)
+pub searches-once : (samples costs : List Float) (b : Block) (map₀ m m′ flags₀ f f′ : List ℕ) (r r′ : Palette)
     → Searches samples costs b map₀ m flags₀ f r → Searches samples costs b map₀ m′ flags₀ f′ r′ → (r ≡ r′) × (m ≡ m′) × (f ≡ f′)
 searches-once samples costs b map₀ m m′ flags₀ f f′ r r′ s t =
     (s .answer ∙ sym (t .answer), s .cells ∙ rw (s .answer, ← t .answer) (sym (t .cells)), s .signs ∙ rw (s .answer, ← t .answer) (sym (t .signs)))
@@ -71,9 +71,6 @@ module _ (samples costs : List Float) (b : Block) (cells lines : ℕ) (sides : s
   own-answer =
       either-way (λ (p : Palette). Own (p .number)) (eqb (searchNumber samples costs b cells lines) 0) (paletteBy (foundIn samples costs b .best)) _
       (own 0 refl refl refl) own-number
-
-length-part : {A : Type 0} (l : List A) (at size : ℕ) → at + size ≤ length l → length (part l at size) ≡ size
-length-part l at size h = length-take-le size (drop at l) (simp length-drop (omega arith))
 
 pub never-one-three-seven : NeverOneThreeSeven
 unfolding sidesOk

@@ -19,7 +19,6 @@ use lib.Ieee.{Float}
 
 -- a block's sides, its places, and those of the blocks before it
 pub record Within (sides : List ℕ) (i : ℕ) : Type 0 where
-  pub there : 2 * i + 1 < length sides
   pub width : getD sides (2 * i) 0 ≤ 64
   pub height : getD sides (2 * i + 1) 0 ≤ 64
   pub cellsBefore : total (cellsAt sides) i ≤ 262144
@@ -44,7 +43,6 @@ module _ (sides : List ℕ) (all : allIn (within 1 64) sides ≡ true) (whole : 
   pub block-within : (i : ℕ) → i < blocksIn sides → Within sides i
   block-within i h =
       record {
-        there = there-at i h;
         width = side (2 * i) (omega (arith, there-at i h));
         height = side (2 * i + 1) (there-at i h);
         cellsBefore = omega (arith, few, total-most (cellsAt sides) 4096 i (λ k l. cells-most k (omega arith)));
@@ -68,18 +66,18 @@ module _ (sides : List ℕ) (samples cells lines : ℕ) (zero : stripNumber side
   pub ready-of : Ready sides samples cells lines
   unfolding stripNumber
   ready-of =
-      let all = total (cellsAt sides) (blocksIn sides) in
-      let longest = total (linesAt sides) (blocksIn sides) in
+      let cellsTaken = total (cellsAt sides) (blocksIn sides) in
+      let linesTaken = total (linesAt sides) (blocksIn sides) in
       let count = held (countOk (length sides)) 18 _ zero in
       let each = held (allIn (within 1 64) sides) 0 _ (count .1) in
-      let sampled = held (eqb samples all) 2 _ (each .1) in
-      let rooms = held (leb all cells && leb longest lines) 6 _ (sampled .1) in
+      let sampled = held (eqb samples cellsTaken) 2 _ (each .1) in
+      let rooms = held (leb cellsTaken cells && leb linesTaken lines) 6 _ (sampled .1) in
       record {
         each = each .0;
         whole = count .0;
-        sampled = eqb-true samples all (sampled .0);
-        mapped = leb-true all cells (and-l (leb all cells) (leb longest lines) (rooms .0));
-        lined = leb-true longest lines (and-r (leb all cells) (leb longest lines) (rooms .0));
+        sampled = eqb-true samples cellsTaken (sampled .0);
+        mapped = leb-true cellsTaken cells (and-l (leb cellsTaken cells) (leb linesTaken lines) (rooms .0));
+        lined = leb-true linesTaken lines (and-r (leb cellsTaken cells) (leb linesTaken lines) (rooms .0));
       }
 
   -- each block's places lie within the lists

@@ -3,7 +3,8 @@ use mathlib.Core.Path.{_≡_}
 use mathlib.Core.List.{List, [], _∷_}
 use Prim.Native.Nat.{ℕ}
 use lib.ListN.{replicate}
-use Rattle.strip.specs.Strip.{cellsAt, linesAt, partOf, stripNumber}
+use Rattle.lists.specs.Counted.{partOf}
+use Rattle.strip.specs.Strip.{cellsAt, linesAt, stripNumber}
 
 -- 16 by 2, then 3 by 20: 92 places in samples and map, 36 in flags
 abbrev pub two : List ℕ

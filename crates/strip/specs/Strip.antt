@@ -6,7 +6,7 @@ use Prim.Native.Nat.{ℕ, _+_, _*_, _/_, _%_, _≤_, _<_, max}
 use lib.Dec.{eqb, leb}
 use lib.ListN.{length, getD, drop}
 use lib.Ieee.{Float}
-use Rattle.lists.specs.Counted.{within, part, upTo, total, allIn}
+use Rattle.lists.specs.Counted.{within, upTo, total, partOf, allIn}
 use Rattle.sizes.specs.declared.Block.{Block}
 use Rattle.accept.specs.declared.Palette.{Palette}
 use Rattle.accept.specs.Answer.{refusedBy}
@@ -27,10 +27,6 @@ cellsAt sides i = getD sides (2 * i) 0 * getD sides (2 * i + 1) 0
 abbrev pub linesAt : List ℕ → ℕ → ℕ
 linesAt sides i = max (getD sides (2 * i) 0) (getD sides (2 * i + 1) 0)
 
--- block i's part of a list in which each block takes as many places as `size` says, in their order
-abbrev pub partOf : {A : Type 0} → (ℕ → ℕ) → List A → ℕ → List A
-partOf size l i = part l (total size i) (size i)
-
 -- one to 64 whole pairs, of so many sides
 abbrev pub countOk : ℕ → Bool
 countOk sides = within 1 64 (sides / 2) && eqb (sides % 2) 0
@@ -38,12 +34,12 @@ countOk sides = within 1 64 (sides / 2) && eqb (sides % 2) 0
 -- 19: no block, more than 64, or half a pair; 1: a side out of 1..64; 3: wrong total samples; 7: short total room; or 0
 unfoldable pub stripNumber : List ℕ → ℕ → ℕ → ℕ → ℕ
 stripNumber sides samples cells lines =
-    let all = total (cellsAt sides) (blocksIn sides) in
-    let longest = total (linesAt sides) (blocksIn sides) in
+    let cellsTaken = total (cellsAt sides) (blocksIn sides) in
+    let linesTaken = total (linesAt sides) (blocksIn sides) in
     cond (not (countOk (length sides))) 19
     (cond (not (allIn (within 1 64) sides)) 1
-    (cond (not (eqb samples all)) 3
-    (cond (not (leb all cells && leb longest lines)) 7 0)))
+    (cond (not (eqb samples cellsTaken)) 3
+    (cond (not (leb cellsTaken cells && leb linesTaken lines)) 7 0)))
 
 module _ (sides : List ℕ) (samples costs : List Float) (bd : ℕ) (lambda : Float) (map₀ map flags₀ flags : List ℕ) where
   -- block i has the answer, and its parts hold the cells and flags, of a separate call with its parts of samples and buffers

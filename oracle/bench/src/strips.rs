@@ -49,11 +49,11 @@ fn print_line(
     for strip in corners.chunks(MAX_STRIP).step_by(part) {
         let blocks: Vec<Cut> = strip.iter().map(|&at| sheet.cut_to(at, cut)).collect();
         let mut strip = Strip::of(&blocks);
-        let answers = answers(|answer| strip.search_each(prices, answer));
-        let same = answers == self::answers(|answer| strip.search(prices, answer));
+        let due = answers(|answer| strip.search_each(prices, answer));
+        let same = due == answers(|answer| strip.search(prices, answer));
         differences += usize::from(!same);
         all.add(&mut strip, prices, passes);
-        for (block, answer) in blocks.into_iter().zip(answers) {
+        for (block, answer) in blocks.into_iter().zip(due) {
             let kind = if answer.is_ok() {
                 &mut found
             } else {

@@ -3,11 +3,10 @@ use Prim.Native.Nat.{_≤_, _<_, _-_}
 use native.Mathlib.Omega.{arith}
 use lib.ListN.{length, length-map, List·getD-map}
 use borrow.Author.Needs.{needs}
-use Rattle.lists.proofs.Each.{Filled, starts, more, whole}
+use Rattle.lists.proofs.Each.{any, Filled, starts, more, whole}
 use Rattle.accept.specs.declared.Palette.{Palette}
 use Rattle.accept.specs.Answer.{refusedBy}
 use Rattle.station.specs.Strip.{estimatesOf}
-use Rattle.station.proofs.Rows.{any}
 use Rattle.station.proofs.estimates_of.Statement.{statement}
 use Rattle.station.proofs.estimates_of.Tie as tie
 

@@ -3,9 +3,10 @@ use Prim.Native.Nat.{_≤_, _<_, _-_}
 use native.Mathlib.Omega.{arith}
 use lib.ListN.{length, length-set}
 use borrow.Author.Needs.{needs}
+use Rattle.lists.proofs.Each.{any}
 use Rattle.accept.specs.declared.Palette.{Palette}
 use Rattle.accept.specs.Answer.{refusedBy}
-use Rattle.station.proofs.Rows.{any, ten-places, Begun, begins, turn, ends}
+use Rattle.station.proofs.Rows.{ten-places, Begun, begins, turn, ends}
 use Rattle.station.proofs.in_rows.Statement.{statement}
 use Rattle.station.proofs.in_rows.Tie as tie
 
@@ -30,7 +31,7 @@ in-fields-requires c κs =
     let a = c .before .before .before .before .args .t1 in
     let inside : l .i < length a = search needs in
     subst (λ (p : Palette). p .n ≤ 8) (any a (l .i) (refusedBy 0) _ inside)
-    (c .before .before .before .before .pre (l .i) (c .before .before .loop-test .taken))
+    (c .before .before .before .before .pre (l .i))
 
 mul-at : tie.Need-mul-at Inv-loop μ-loop
 mul-at c = search needs
