@@ -26,7 +26,8 @@ use Rattle.strip.proofs.Sides.{ready-of, fits-at}
 
 -- what a search answers and leaves is settled by what it is given
 pub searches-once : (samples costs : List Float) (b : Block) (map₀ m m′ flags₀ f f′ : List ℕ) (r r′ : Palette)
-    → Searches samples costs b map₀ m flags₀ f r → Searches samples costs b map₀ m′ flags₀ f′ r′ → (r ≡ r′) × (m ≡ m′) × (f ≡ f′)
+    → Searches samples costs b map₀ m flags₀ f r → Searches samples costs b map₀ m′ flags₀ f′ r′
+    → (r ≡ r′) × (m ≡ m′) × (f ≡ f′)
 searches-once samples costs b map₀ m m′ flags₀ f f′ r r′ s t =
     (s .answer ∙ sym (t .answer), s .cells ∙ rw (s .answer, ← t .answer) (sym (t .cells)), s .signs ∙ rw (s .answer, ← t .answer) (sym (t .signs)))
 

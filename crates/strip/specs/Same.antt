@@ -33,4 +33,5 @@ abbrev pub StripsOnce : Type 0
 StripsOnce =
     (sides : List ℕ) (samples costs : List Float) (bd : ℕ) (lambda : Float) (map₀ m m′ flags₀ f f′ : List ℕ) (r r′ : Strip)
     → Strips sides samples costs bd lambda map₀ m flags₀ f r → Strips sides samples costs bd lambda map₀ m′ flags₀ f′ r′
-    → (r .number ≡ r′ .number) × ((i : ℕ) → getD (r .answers) i (refusedBy 0) ≡ getD (r′ .answers) i (refusedBy 0)) × (m ≡ m′) × (f ≡ f′)
+    → (r .number ≡ r′ .number) × ((i : ℕ) → getD (r .answers) i (refusedBy 0) ≡ getD (r′ .answers) i (refusedBy 0))
+    × (m ≡ m′) × (f ≡ f′)
