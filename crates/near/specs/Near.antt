@@ -1,60 +1,33 @@
--- The context and the neighbours of a cell as the map search and the reading hold them, and what they need of them. Assumes nothing.
-use Prim.Native.Nat.{ℕ, zero, suc, _+_, _-_, _≤_, _<_, min, max}
-use mathlib.Core.Bool.{false, cond}
+-- The row of a cell in the tables, and its context. Assumes nothing.
+use Prim.Native.Nat.{ℕ, zero, suc, _<_}
 use mathlib.Core.Path.{_≡_}
-use mathlib.Core.List.{List, [], _∷_}
-use lib.Dec.{eqb, ltb, leb}
-use lib.ListN.{getD, take, length}
-use Rattle.lists.specs.Counted.{elem, bit}
-use Rattle.context.specs.Order.{Around, byThree, around, others}
-use Rattle.context.specs.Parts.{held}
-use Rattle.context.specs.declared.Near.{Near}
+use mathlib.Core.List.{List}
+use lib.ListN.{getD}
+use Rattle.context.specs.Map.{cell}
+use Rattle.context.specs.Order.{Around, byThree, orderOf}
+use Rattle.rows.specs.Rows.{rowOf, aroundRow, Fits}
+use Rattle.near.specs.declared.Key.{Key}
 
--- index v alone comes first
-abbrev pub one : ℕ → Near
-one v = held (record { ctx = 0; firsts = v ∷ [] })
+-- one neighbour, as three equal ones but for the context; and three
+abbrev pub edgeKey : ℕ → Key
+edgeKey v = record { row = rowOf v v v; ctx = 0 }
 
--- at a cell; at (0,0) index 0 comes first, which is the index order
-unfoldable pub nearAt : List ℕ → ℕ → ℕ → ℕ → Near
-nearAt m w zero zero = one 0
-nearAt m w zero (suc x) = held (around byThree m w zero (suc x))
-nearAt m w (suc y) x = held (around byThree m w (suc y) x)
+abbrev pub threeKey : ℕ → ℕ → ℕ → Key
+threeKey left top diag = record { row = rowOf left top diag; ctx = byThree left top diag .ctx }
 
--- the neighbours' indices
-abbrev pub firstsOf : Near → List ℕ
-firstsOf m = take (m .count) (m .first ∷ m .second ∷ m .third ∷ [])
-
-abbrev pub aroundOf : Near → Around
-aroundOf m = record { ctx = m .ctx; firsts = firstsOf m }
+-- at a cell; at (0,0) as if index 0 stood beside it, which gives the index order
+unfoldable pub keyAt : List ℕ → ℕ → ℕ → ℕ → Key
+keyAt m w zero zero = edgeKey 0
+keyAt m w zero (suc x) = edgeKey (cell m w zero x)
+keyAt m w (suc y) zero = edgeKey (cell m w y zero)
+keyAt m w (suc y) (suc x) = threeKey (cell m w (suc y) x) (cell m w y (suc x)) (cell m w y x)
 
 -- all of a map's cells are below n
 abbrev pub Below : List ℕ → ℕ → Type 0
 Below m n = (i : ℕ) → getD m i 0 < n
 
--- what the code needs of the neighbours: each below n, one to three of them, and a place in the order for each other index
-pub record Usable (m : Near) (n : ℕ) : Type 0 where
-  pub some : 1 ≤ m .count
-  pub few : m .count ≤ 3
-  pub context : m .ctx < 5
-  pub first : m .first < n
-  pub second : m .second < n
-  pub third : m .third < n
-  pub room : (v : ℕ) → v < 8 → elem v (firstsOf m) ≡ false → m .count + length (others (firstsOf m) v) < 8
-
--- the rank of index c where v alone comes first
-abbrev pub rankBy : ℕ → ℕ → ℕ
-rankBy c v = cond (eqb c v) 0 (cond (ltb c v) (suc c) c)
-
--- the number after j where x is at or below it, else j
-abbrev pub past : ℕ → ℕ → ℕ
-past x j = j + bit (leb x j)
-
--- j counted past three indices, from the least on
-abbrev pub pastAll : ℕ → ℕ → ℕ → ℕ → ℕ
-pastAll a b c j = past (max (max a b) c) (past (max (min a b) (min (max a b) c)) (past (min (min a b) c) j))
-
--- the index at a rank, without the order: one that comes first, or the rank counted past them; none reaches 254
-unfoldable pub indexAt : Near → ℕ → ℕ
-indexAt m r =
-    cond (ltb r (m .count)) (getD (m .first ∷ m .second ∷ m .third ∷ []) r 0)
-    (pastAll (m .first) (cond (leb 2 (m .count)) (m .second) 254) (cond (leb 3 (m .count)) (m .third) 255) (r - m .count))
+-- the row gives the order of what is around a cell, and its context is the cell's
+pub record Keyed (a : Around) (n : ℕ) (k : Key) : Type 0 where
+  pub fits : Fits (k .row) n
+  pub order : orderOf (aroundRow (k .row)) n ≡ orderOf a n
+  pub ctx : k .ctx ≡ a .ctx

@@ -6,6 +6,8 @@ use mathlib.Core.List.{List}
 use lib.ListN.{getD, set}
 use Rattle.context.specs.Map.{rowAt, colAt}
 use Rattle.context.specs.Order.{Around, byThree, around}
+use Rattle.near.specs.declared.Key.{Key}
+use Rattle.near.specs.Near.{keyAt}
 use Rattle.scan.specs.declared.Scan.{Scan}
 
 -- lines are rows, or columns when transposed
@@ -28,6 +30,10 @@ fill s l g m (suc k) = set (fill s l g m k) (placeAt s l k) (g k)
 -- the context of cell a of line l, and the indices that come first there
 abbrev pub aroundIn : List ℕ → Scan → ℕ → ℕ → Around
 aroundIn m s l a = around byThree m (s .w) (rowAt (s .transposed) l a) (colAt (s .transposed) l a)
+
+-- its row in the tables, and its context
+abbrev pub keyIn : List ℕ → Scan → ℕ → ℕ → Key
+keyIn m s l a = keyAt m (s .w) (rowAt (s .transposed) l a) (colAt (s .transposed) l a)
 
 -- what the code asks of a scan over N cells
 pub record Sound (s : Scan) (N : ℕ) : Type 0 where

@@ -3,8 +3,9 @@ ghost use mathlib.Core.Path.{_≡_};
 ghost use Prim.Native.Nat.{_+_, _*_, _-_, _<_};
 ghost use lib.ListN.{length};
 ghost use Rattle.context.specs.Map.{rowAt, colAt};
-ghost use Rattle.near.specs.Near.{nearAt};
-ghost use Rattle.scan.specs.Scan.{scanOf, placeAt, cellIn, fill, Sound};
+ghost use Rattle.rows.specs.Rows.{codeTable};
+ghost use Rattle.near.specs.Near.{Below};
+ghost use Rattle.scan.specs.Scan.{scanOf, placeAt, cellIn, fill, keyIn, Sound};
 
 // The order in which a map is walked: cell a of line l stands at l * stride + a * step.
 pub struct Scan {
@@ -74,13 +75,14 @@ pub fn copy_line(map: &mut [u8], s: Scan, l: usize)
     }
 }
 
-// The neighbours of cell a of line l.
-pub fn near_cell(map: &[u8], s: Scan, l: usize, a: usize) -> context::Near
-    requires { ⌜ rowAt (s .transposed) l a * s .w + colAt (s .transposed) l a < length (now map) ⌝ }
-    ensures { λ r. ⌜ r ≡ nearAt (now (map .entry)) (s .w) (rowAt (s .transposed) l a) (colAt (s .transposed) l a) ⌝ }
+// The row of cell a of line l in the tables of `rows`, and its context.
+pub fn key_cell(map: &[u8], codes: &[u8; 4096], s: Scan, l: usize, a: usize) -> near::Key
+    requires { ⌜ (rowAt (s .transposed) l a * s .w + colAt (s .transposed) l a < length (now map)) × Below (now map) 8
+        × (now codes ≡ codeTable) ⌝ }
+    ensures { λ r. ⌜ r ≡ keyIn (now (map .entry)) s l a ⌝ }
 {
     if s.transposed {
-        return near::near_at(map, s.w, a, l);
+        return near::key_at(map, codes, s.w, a, l);
     }
-    near::near_at(map, s.w, l, a)
+    near::key_at(map, codes, s.w, l, a)
 }

@@ -1,0 +1,38 @@
+-- Document 02, L7: what three neighbours below 8 answer, row after row in two tables. Assumes nothing.
+use Prim.Native.Nat.{ℕ, zero, suc, _+_, _*_, _/_, _%_, _<_}
+use mathlib.Core.List.{List, [], _∷_, _++_}
+use Rattle.context.specs.Order.{Around, byThree, orderOf, rankOf}
+
+-- the row of three neighbours
+abbrev pub rowOf : ℕ → ℕ → ℕ → ℕ
+rowOf left top diag = (left * 8 + top) * 8 + diag
+
+-- the context of row k, and the neighbours' indices that come first
+abbrev pub aroundRow : ℕ → Around
+aroundRow k = byThree (k / 64) (k / 8 % 8) (k % 8)
+
+-- its three neighbours are below n
+abbrev pub Fits : ℕ → ℕ → Type 0
+Fits k n = (k < 512) × (k / 64 < n) × (k / 8 % 8 < n) × (k % 8 < n)
+
+-- the order of all eight indices
+abbrev pub orderRow : ℕ → List ℕ
+orderRow k = orderOf (aroundRow k) 8
+
+-- eight times the context, and the rank of index i
+abbrev pub codeAt : ℕ → ℕ → ℕ
+codeAt k i = aroundRow k .ctx * 8 + rankOf (aroundRow k) 8 i
+
+abbrev pub codeRow : ℕ → List ℕ
+codeRow k = codeAt k 0 ∷ codeAt k 1 ∷ codeAt k 2 ∷ codeAt k 3 ∷ codeAt k 4 ∷ codeAt k 5 ∷ codeAt k 6 ∷ codeAt k 7 ∷ []
+
+-- count rows from row k on
+unfoldable pub rowsFrom : (ℕ → List ℕ) → ℕ → ℕ → List ℕ
+rowsFrom f k zero = []
+rowsFrom f k (suc count) = f k ++ rowsFrom f (k + 1) count
+
+unfoldable pub orderTable : List ℕ
+orderTable = rowsFrom orderRow 0 512
+
+unfoldable pub codeTable : List ℕ
+codeTable = rowsFrom codeRow 0 512
