@@ -5,7 +5,7 @@ use mathlib.Core.List.{List}
 use lib.ListN.{getD}
 use Rattle.context.specs.Map.{cell}
 use Rattle.context.specs.Order.{Around, byThree, orderOf}
-use Rattle.rows.specs.Rows.{rowOf, aroundRow, Fits}
+use Rattle.rows.specs.Rows.{rowOf, rowOrder, Fits}
 use Rattle.near.specs.declared.Key.{Key}
 
 -- one neighbour, as three equal ones but for the context; and three
@@ -29,5 +29,5 @@ Below m n = (i : ℕ) → getD m i 0 < n
 -- the row gives the order of what is around a cell, and its context is the cell's
 pub record Keyed (a : Around) (n : ℕ) (k : Key) : Type 0 where
   pub fits : Fits (k .row) n
-  pub order : orderOf (aroundRow (k .row)) n ≡ orderOf a n
+  pub order : rowOrder (k .row) n ≡ orderOf a n
   pub ctx : k .ctx ≡ a .ctx

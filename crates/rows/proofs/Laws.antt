@@ -12,7 +12,7 @@ use Rattle.context.specs.Order.{Around, byThree, orderOf, place, rankOf}
 use Rattle.context.proofs.Order.{FirstsOk, order-next, order-length, order-has, rank-below}
 use Rattle.context.proofs.Others.{added}
 use Rattle.context.proofs.Around.{three-ok}
-use Rattle.rows.specs.Rows.{rowOf, aroundRow, Fits, orderRow, codeAt, codeRow, rowsFrom, orderTable, codeTable}
+use Rattle.rows.specs.Rows.{rowOf, aroundRow, Fits, rowOrder, orderRow, codeAt, codeRow, rowsFrom, orderTable, codeTable}
 
 -- place q of row j, where each row has eight
 row-place : (f : ℕ → List ℕ) → ((k : ℕ) → k < 512 → length (f k) ≡ 8) → (k count j q : ℕ) → k + count ≤ 512 → j < count → q < 8
@@ -110,12 +110,12 @@ module _ (k n : ℕ) (fits : Fits k n) (most : n ≤ 8) where
   whole : n + (8 - n) ≡ 8
   whole = omega arith
 
-  pub row-length : length (orderOf (aroundRow k) n) ≡ n
+  pub row-length : length (rowOrder k n) ≡ n
   row-length = order-length (aroundRow k) n (row-ok k n fits)
 
-  pub order-row : (q : ℕ) → q < n → getD (orderRow k) q 0 ≡ getD (orderOf (aroundRow k) n) q 0
+  pub order-row : (q : ℕ) → q < n → getD (orderRow k) q 0 ≡ getD (rowOrder k n) q 0
   order-row q h =
-      ap (λ (i : ℕ). getD (orderOf (aroundRow k) i) q 0) (sym whole)
+      ap (λ (i : ℕ). getD (rowOrder k i) q 0) (sym whole)
       ∙ longer (aroundRow k) n (8 - n) q (omega (arith, row-length)) .1
 
   pub rank-row : (i : ℕ) → i < n → rankOf (aroundRow k) 8 i ≡ rankOf (aroundRow k) n i

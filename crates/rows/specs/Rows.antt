@@ -15,9 +15,12 @@ aroundRow k = byThree (k / 64) (k / 8 % 8) (k % 8)
 abbrev pub Fits : ℕ → ℕ → Type 0
 Fits k n = (k < 512) × (k / 64 < n) × (k / 8 % 8 < n) × (k % 8 < n)
 
--- the order of all eight indices
+-- the order of n indices, and of all eight
+abbrev pub rowOrder : ℕ → ℕ → List ℕ
+rowOrder k n = orderOf (aroundRow k) n
+
 abbrev pub orderRow : ℕ → List ℕ
-orderRow k = orderOf (aroundRow k) 8
+orderRow k = rowOrder k 8
 
 -- eight times the context, and the rank of index i
 abbrev pub codeAt : ℕ → ℕ → ℕ
