@@ -27,6 +27,11 @@ Skips n skips = (j : ℕ) → j < 64 → getD skips j false ≡ (leb n (j % 8) |
 abbrev pub passedBy : List Float → Float → List Bool → ℕ → ℕ → Bool
 passedBy dists top skips at i = getD skips (at + i) false || lt top (getD dists i nan)
 
+-- what is made once for a size
+pub record Sure (costs : List Float) (n : ℕ) (cap : Float) (skips : List Bool) : Type 0 where
+  pub capped : Capped costs n cap
+  pub skipped : Skips n skips
+
 -- what the costs and lambda are: not negative, lambda finite
 pub record Priced (costs : List Float) (lambda : Float) : Type 0 where
   pub plus : (i : ℕ) → NotNeg (getD costs i nan)

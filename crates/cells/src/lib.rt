@@ -9,8 +9,8 @@ ghost use lib.IntN.{pos};
 ghost use lib.Ieee.{nan, binary32, lt, le, ofInt};
 ghost use Rattle.counts.specs.Counts.{uniformBits};
 ghost use Rattle.lists.specs.Counted.{allBelow};
-ghost use Rattle.cells.specs.Sure.{Capped, Priced, Skips, passedBy, soleBy};
-ghost use Rattle.rows.specs.Rows.{orderTable, codeTable, rowOrder, orderRow, Fits};
+ghost use Rattle.cells.specs.Sure.{Capped, Skips, Sure, Priced, passedBy, soleBy};
+ghost use Rattle.rows.specs.Rows.{orderTable, codeTable, rowOrder, orderRow, Fits, Tables};
 ghost use Rattle.cells.specs.Cell.{square, totalOf, plus, eight, squaresOf, ratesOf, pickAt, chosen, cellOf};
 
 // Distance and rate, kept together.
@@ -354,9 +354,8 @@ pub fn quick_cell(
     cap: f32,
     skips: &[bool; 64],
 ) -> Cell
-    requires { ⌜ (now orders ≡ orderTable) × (now codes ≡ codeTable) × Fits row n × (ctx < 5) ⌝ }
-    requires { ⌜ (2 ≤ n) × (n ≤ 8) × (length (now costs) ≡ 301) × Priced (now costs) lambda × Capped (now costs) n cap
-        × Skips n (now skips) ⌝ }
+    requires { ⌜ Tables (now orders) (now codes) × Fits row n × (ctx < 5) ⌝ }
+    requires { ⌜ (2 ≤ n) × (n ≤ 8) × (length (now costs) ≡ 301) × Priced (now costs) lambda × Sure (now costs) n cap (now skips) ⌝ }
     ensures { λ r. ⌜ r ≡ cellOf (squaresOf x (now (colors .entry))) (ratesOf (now (costs .entry)) n ctx false) lambda (rowOrder row n) ⌝ }
 {
     let rates = rates(costs, n, ctx, false);

@@ -70,7 +70,7 @@ module _ (samples costs colours : List Float) (n : ℕ) (lambda : Float) (s : Sc
 
     pub cell-rates-within : (a rank : ℕ) → rank < 8 → Within (getD (ratesAt samples costs colours n lambda s m l a) rank nan) 32
     cell-rates-within a rank under =
-        let small = context-small m s l a n below (omega (arith, known .two)) (known .most) in
+        let small = context-small m s l a in
         rates-within (aroundIn m s l a .ctx) rank (eqb (l + a) 0) small under
 
     cell-within : (a : ℕ) → a < s .len → Within (cellFound a .cost .dist) (2 ^ 26) × Within (cellFound a .cost .rate) 32

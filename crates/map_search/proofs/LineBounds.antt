@@ -5,34 +5,26 @@ use mathlib.Core.Path.{_≡_, refl}
 use mathlib.Core.List.{List, [], _∷_, _++_}
 use native.Mathlib.Omega.{arith}
 use native.Mathlib.Nat.{le-trans, mul-le-mul-right}
-use borrow.Author.Tests.{ltb-true}
-use lib.Dec.{eqb, ltb, lit≤}
+use lib.Dec.{eqb, lit≤}
 use lib.ListN.{getD}
 use lib.Ieee.{Float, nan, binary32, add}
 use lib.Ieee.Back.{round-whole}
 use Rattle.ieee.specs.Bounds.{Within}
 use Rattle.ieee.proofs.Bounds.{within-mono, add-within}
 use Rattle.context.specs.Order.{rankOf}
-use Rattle.near.specs.Near.{rankBy, Below}
+use Rattle.near.specs.Near.{Below}
+use Rattle.near.proofs.Keys.{key-rank-below}
 use Rattle.cells.specs.Cell.{totalOf}
 use Rattle.cells.proofs.Cheapest.{firstCheapest-holds, All, all-append}
 use Rattle.scan.specs.declared.Scan.{Scan}
 use Rattle.map_search.specs.declared.Choice.{Choice}
-use Rattle.scan.specs.Scan.{placeAt, cellIn, aroundIn}
+use Rattle.scan.specs.Scan.{placeAt, cellIn, aroundIn, keyIn}
 use Rattle.map_search.specs.Lines.{distLine, rowCost, ratesAt, copied, constant, constants, own, candidates, lineOf}
-use Rattle.map_search.proofs.Neighbours.{nearCell, near-usable, first-rank}
+use Rattle.map_search.proofs.Neighbours.{key-cell}
 use Rattle.map_search.proofs.CellBounds.{InRange, row-within, cell-rates-within, cells-within, dist-within}
 
 abbrev pub Bounded : Choice → Type 0
 Bounded c = Within (c .cost .dist) (2 ^ 32) × Within (c .cost .rate) (2 ^ 12)
-
-rank-small : (c v : ℕ) → c < 8 → v < 8 → rankBy c v < 8
-rank-small c v p q = by-test (eqb c v) (ltb c v) (ltb-true c v)
-  where
-    by-test : (s t : Bool) → (t ≡ true → c < v) → cond s 0 (cond t (suc c) c) < 8
-    by-test true t f = omega arith
-    by-test false true f = omega (arith, f refl)
-    by-test false false f = p
 
 module _ (samples costs colours : List Float) (n : ℕ) (lambda : Float) (s : Scan) (known : InRange samples costs colours n s)
     (m : List ℕ) (l ctx : ℕ) (below : Below m n) (on : l < s .lines) (context : ctx ≤ 3) where
@@ -74,10 +66,9 @@ module _ (samples costs colours : List Float) (n : ℕ) (lambda : Float) (s : Sc
   first-rate-within : (c : ℕ) → c < n → Within (firstRate c) 32
   first-rate-within c under =
       let some : 0 < n = omega (arith, known .two) in
-      let near = near-usable m s l 0 n below some (known .most) in
-      let small = rank-small c (nearCell m s l 0 .first) (omega (arith, known .most)) (omega (arith, near .first, known .most)) in
-      cell-rates-within samples costs colours n lambda s known m l below on 0 (rankOf (aroundIn m s l 0) n c)
-      (rw (first-rank m s l n below some (known .most) c under) small)
+      let key = key-cell m s l 0 n below some (known .most) in
+      let small = key-rank-below (aroundIn m s l 0) n (keyIn m s l 0) key (known .most) c under in
+      cell-rates-within samples costs colours n lambda s known m l below on 0 (rankOf (aroundIn m s l 0) n c) (omega (arith, small, known .most))
 
   constant-bounded : (c : ℕ) → c < n → Bounded (constant samples costs colours n lambda s m l ctx c)
   constant-bounded c under =

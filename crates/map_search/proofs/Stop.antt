@@ -20,9 +20,10 @@ use Rattle.cells.specs.declared.Cost.{Cost}
 use Rattle.cells.specs.Cell.{square, totalOf, squaresOf, ratesOf}
 use Rattle.cells.proofs.Eight.{eight-each}
 use Rattle.map_search.specs.declared.Choice.{Choice}
+use Rattle.cells.specs.Sure.{Priced}
 use Rattle.scan.specs.declared.Scan.{Scan}
 use Rattle.map_search.specs.Lines.{Cells, cellAt, cellsOf, rowCost, lineOf, putLine}
-use Rattle.map_search.specs.Parts.{bestOf, Halted, Priced}
+use Rattle.map_search.specs.Parts.{bestOf, Halted}
 use Rattle.map_search.proofs.LineChoice.{settled}
 use Rattle.map_search.proofs.PutLine.{put-own}
 

@@ -1,5 +1,5 @@
 -- What the crate's functions ask and answer: `build_map` and its steps. Assumes nothing.
-use Prim.Native.Nat.{ℕ, zero, suc, _+_, _^_, _≤_}
+use Prim.Native.Nat.{ℕ, zero, suc, _+_, _≤_}
 use mathlib.Core.Bool.{true, cond}
 use mathlib.Core.Path.{_≡_}
 use mathlib.Core.List.{List, [], _∷_}
@@ -7,20 +7,14 @@ use mathlib.Core.Logic.{_⊎_}
 use lib.Dec.{eqb, T}
 use lib.ListN.{getD}
 use lib.Ieee.{Float, nan, binary32, add, le, fits}
-use Rattle.ieee.specs.Bounds.{NotNeg, Within}
-use Rattle.context.specs.Map.{rowAt, colAt}
-use Rattle.context.specs.declared.Near.{Near}
-use Rattle.near.specs.Near.{nearAt, rankBy}
+use Rattle.context.specs.Order.{rankOf}
+use Rattle.rows.specs.Rows.{aroundRow}
 use Rattle.cells.specs.Cell.{totalOf, cheapest}
 use Rattle.cells.specs.declared.Cost.{Cost}
 use Rattle.map_search.specs.declared.Choice.{Choice}
 use Rattle.scan.specs.declared.Scan.{Scan}
 use Rattle.map_search.specs.declared.MapResult.{MapResult}
 use Rattle.map_search.specs.Lines.{Ended, cellsOf, copied, constant, constants, totalBy}
-
--- L3, one asking for all constants of line l: the context at its first cell
-abbrev pub firstNear : List ℕ → Scan → ℕ → Near
-firstNear m s l = nearAt m (s .w) (rowAt (s .transposed) l 0) (colAt (s .transposed) l 0)
 
 module _ (samples costs colours : List Float) (n : ℕ) (lambda : Float) (s : Scan) where
   -- the candidate that the code begins with: the copy, or on the first line the constant of index 0, which then meets itself
@@ -31,15 +25,15 @@ module _ (samples costs colours : List Float) (n : ℕ) (lambda : Float) (s : Sc
   unfoldable pub bestOf : List ℕ → ℕ → ℕ → Choice
   bestOf m l ctx = cheapest (totalBy samples costs colours n lambda s) (first m l ctx) (constants samples costs colours n lambda s m l ctx 0 n)
 
--- the constant lines as the code has them: by the distances from each colour and the first cell's costs by rank, where v comes first
+-- the constant lines as the code has them: by the distances from each colour, the first cell's costs by rank, and its row k
 abbrev pub constantBy : List Float → List Float → ℕ → Float → ℕ → Choice
-constantBy dists rates v row c =
-    let cost : Cost = record { dist = getD dists c nan; rate = add binary32 row (getD rates (rankBy c v) nan) } in
+constantBy dists rates k row c =
+    let cost : Cost = record { dist = getD dists c nan; rate = add binary32 row (getD rates (rankOf (aroundRow k) 8 c) nan) } in
     record { cost = cost; flag = 1; index = c }
 
 unfoldable pub constantsBy : List Float → List Float → ℕ → Float → ℕ → ℕ → List Choice
-constantsBy dists rates v row c zero = []
-constantsBy dists rates v row c (suc k) = constantBy dists rates v row c ∷ constantsBy dists rates v row (c + 1) k
+constantsBy dists rates k row c zero = []
+constantsBy dists rates k row c (suc count) = constantBy dists rates k row c ∷ constantsBy dists rates k row (c + 1) count
 
 -- cell by cell up to the end of the line, or until the total has reached the limit; row is an f32
 pub record Halted (samples costs colours : List Float) (n : ℕ) (lambda : Float) (s : Scan) (m : List ℕ) (l : ℕ) (row limit : Float)
@@ -56,8 +50,3 @@ pub record Built (w : Ended) (r : MapResult) (map flags : List ℕ) : Type 0 whe
   pub result : r ≡ w .result
   pub cells : map ≡ w .map
   pub signs : flags ≡ w .flags
-
--- what the costs and lambda are: not negative, lambda finite
-pub record Priced (costs : List Float) (lambda : Float) : Type 0 where
-  pub plus : (i : ℕ) → NotNeg (getD costs i nan)
-  pub mild : Within lambda (2 ^ 20)

@@ -1,4 +1,5 @@
 // The map search: for each line the cheapest of copy, constant and cell by cell. Functions may have a `requires`.
+use context::Index;
 use scan::Scan;
 ghost use mathlib.Core.Path.{_≡_};
 ghost use Prim.Native.Nat.{_+_, _*_, _-_, _≤_, _<_};
@@ -7,11 +8,13 @@ ghost use lib.Dec.{eqb};
 ghost use lib.ListN.{length, getD};
 ghost use lib.Ieee.{nan, binary32, add};
 ghost use Rattle.context.specs.Map.{rowAt, colAt};
-ghost use Rattle.near.specs.Near.{rankBy, Below};
+ghost use Rattle.rows.specs.Rows.{codeTable, Tables};
+ghost use Rattle.near.specs.Near.{Below};
 ghost use Rattle.cells.specs.Cell.{square, totalOf, cheapest, eight};
-ghost use Rattle.scan.specs.Scan.{cellIn, fill, Sound};
+ghost use Rattle.cells.specs.Sure.{Sure, Priced};
+ghost use Rattle.scan.specs.Scan.{cellIn, fill, keyIn, Sound};
 ghost use Rattle.map_search.specs.Lines.{distLine, rowCost, cellAt, copiedBy, lineOf, putLine, mapOf};
-ghost use Rattle.map_search.specs.Parts.{firstNear, bestOf, Halted, constantBy, constantsBy, Priced, Built};
+ghost use Rattle.map_search.specs.Parts.{bestOf, Halted, constantBy, constantsBy, Built};
 ghost use Rattle.map_search.specs.declared.Choice.{Choice};
 
 // A line's candidate; index is that of a constant line.
@@ -77,29 +80,22 @@ fn copy_dist(src: &[f32], map: &[u8], colors: &[f32; 8], s: Scan, l: usize) -> f
     t
 }
 
-// The rank of index c where v alone comes first.
-fn rank_by(c: usize, v: usize) -> usize
-    requires { ⌜ (c < 8) × (v < 8) ⌝ }
-    ensures { λ r. ⌜ (r ≡ rankBy c v) × (r < 8) ⌝ }
+// The line that is all of index c; k is the row of its first cell, whose costs are `rates`.
+fn constant(
+    dists: &[f32; 8],
+    rates: &[f32; 8],
+    codes: &[u8; 4096],
+    k: usize,
+    row: f32,
+    c: usize,
+) -> Choice
+    requires { ⌜ (c < 8) × (k < 512) × (now codes ≡ codeTable) ⌝ }
+    ensures { λ r. ⌜ r ≡ constantBy (now (dists .entry)) (now (rates .entry)) k row c ⌝ }
 {
-    if c == v {
-        return 0;
-    }
-    if c < v {
-        return c + 1;
-    }
-    c
-}
-
-// The line that is all of index c; v comes first in the order at its first cell, whose costs are `rates`.
-fn constant(dists: &[f32; 8], rates: &[f32; 8], v: usize, row: f32, c: usize) -> Choice
-    requires { ⌜ (c < 8) × (v < 8) ⌝ }
-    ensures { λ r. ⌜ r ≡ constantBy (now (dists .entry)) (now (rates .entry)) v row c ⌝ }
-{
-    let k = rank_by(c, v);
+    let rank = rows::rank_at(codes, k, Index(c as u8));
     let cost = cells::Cost {
         dist: dists[c],
-        rate: row + rates[k],
+        rate: row + rates[rank.0 as usize],
     };
     Choice {
         cost,
@@ -112,21 +108,22 @@ fn constant(dists: &[f32; 8], rates: &[f32; 8], v: usize, row: f32, c: usize) ->
 fn best_const(
     dists: &[f32; 8],
     rates: &[f32; 8],
-    v: usize,
+    codes: &[u8; 4096],
+    k: usize,
     row: f32,
     n: usize,
     lambda: f32,
     from: Choice,
 ) -> Choice
-    requires { ⌜ (n ≤ 8) × (v < 8) ⌝ }
+    requires { ⌜ (n ≤ 8) × (k < 512) × (now codes ≡ codeTable) ⌝ }
     ensures { λ r. ⌜ r ≡ cheapest (λ (c : Choice). totalOf (c .cost) lambda) from
-        (constantsBy (now (dists .entry)) (now (rates .entry)) v row 0 n) ⌝ }
+        (constantsBy (now (dists .entry)) (now (rates .entry)) k row 0 n) ⌝ }
 {
     let mut best = from;
     let mut least = cells::total(from.cost, lambda);
     let mut c: usize = 0;
     while c < n {
-        let next = constant(dists, rates, v, row, c);
+        let next = constant(dists, rates, codes, k, row, c);
         let cost = next.cost;
         let total = cells::total(cost, lambda);
         if total < least {
@@ -149,17 +146,39 @@ fn one_cell(
     a: usize,
     n: usize,
     lambda: f32,
+    orders: &[u8; 4096],
+    codes: &[u8; 4096],
+    marks: &[f32; 8],
+    cap: f32,
+    skips: &[bool; 64],
 ) -> cells::Cell
     requires { ⌜ Sound s (length (now src)) × (length (now src) ≤ length (now map)) × (l < s .lines) × (a < s .len) ⌝ }
-    requires { ⌜ (2 ≤ n) × (n ≤ 8) × (length (now costs) ≡ 301) × Below (now map) n ⌝ }
+    requires { ⌜ (2 ≤ n) × (n ≤ 8) × (length (now costs) ≡ 301) × Below (now map) n × Priced (now costs) lambda
+        × Tables (now orders) (now codes) × Sure (now costs) n cap (now skips) ⌝ }
     ensures { λ r. ⌜ r ≡ cellAt (now (src .entry)) (now (costs .entry)) (now (colors .entry)) n lambda s (now (map .entry)) l a ⌝ }
 {
     let p = scan::place(s, l, a);
     let x = src[p];
-    let m = scan::near_cell(map, s, l, a);
-    let k = m.ctx;
-    let rates = cells::rates(costs, n, k, p == 0);
-    cells::choose_cell(x, colors, m, &rates, n, lambda)
+    let m = scan::key_cell(map, codes, s, l, a);
+    let ctx = m.ctx;
+    if l + a == 0 {
+        let rates = cells::rates(costs, n, ctx, true);
+        return cells::choose_cell(x, colors, orders, m.row, &rates, n, lambda);
+    }
+    cells::quick_cell(
+        x,
+        colors,
+        marks,
+        costs,
+        orders,
+        codes,
+        m.row,
+        ctx,
+        n,
+        lambda,
+        cap,
+        skips,
+    )
 }
 
 // Line l cell by cell, into the map: its cost. It stops where the total has reached the limit.
@@ -174,9 +193,15 @@ fn cell_by_cell(
     lambda: f32,
     row: f32,
     limit: f32,
+    orders: &[u8; 4096],
+    codes: &[u8; 4096],
+    marks: &[f32; 8],
+    cap: f32,
+    skips: &[bool; 64],
 ) -> cells::Cost
     requires { ⌜ Sound s (length (now src)) × (length (now src) ≤ length (now map)) × (l < s .lines) ⌝ }
-    requires { ⌜ (2 ≤ n) × (n ≤ 8) × (length (now costs) ≡ 301) × Below (now map) n ⌝ }
+    requires { ⌜ (2 ≤ n) × (n ≤ 8) × (length (now costs) ≡ 301) × Below (now map) n × Priced (now costs) lambda
+        × Tables (now orders) (now codes) × Sure (now costs) n cap (now skips) ⌝ }
     ensures { λ r. ⌜ Halted (now (src .entry)) (now (costs .entry)) (now (colors .entry)) n lambda s (now (map .entry)) l row limit r
         (now (map .exit)) ⌝ }
 {
@@ -186,7 +211,22 @@ fn cell_by_cell(
     };
     let mut a: usize = 0;
     while a < s.len {
-        let v = one_cell(src, map, costs, colors, s, l, a, n, lambda);
+        let v = one_cell(
+            src,
+            map,
+            costs,
+            colors,
+            s,
+            l,
+            a,
+            n,
+            lambda,
+            orders,
+            codes,
+            marks,
+            cap,
+            skips,
+        );
         let p = scan::place(s, l, a);
         map[p] = v.index;
         let d = v.cost;
@@ -234,19 +274,20 @@ fn row_cost(costs: &[f32], ctx: usize, flag: usize) -> f32
     costs[9 + ctx * 3 + flag]
 }
 
-// The context at the first cell of line l, asked once for all constants of the line. In the first line nothing is asked:
-// the order is that of the indices.
-fn first_near(map: &[u8], s: Scan, l: usize) -> context::Near
-    requires { ⌜ rowAt (s .transposed) l 0 * s .w + colAt (s .transposed) l 0 < length (now map) ⌝ }
-    ensures { λ r. ⌜ r ≡ firstNear (now (map .entry)) s l ⌝ }
+// The row of the first cell of line l, asked once for all constants of the line. In the first line nothing is asked: the
+// order is that of the indices.
+fn first_key(map: &[u8], codes: &[u8; 4096], s: Scan, l: usize) -> near::Key
+    requires { ⌜ (rowAt (s .transposed) l 0 * s .w + colAt (s .transposed) l 0 < length (now map)) × Below (now map) 8
+        × (now codes ≡ codeTable) ⌝ }
+    ensures { λ r. ⌜ r ≡ keyIn (now (map .entry)) s l 0 ⌝ }
 {
     if l == 0 {
-        return near::near_one(0);
+        return near::edge_key(Index(0));
     }
-    scan::near_cell(map, s, l, 0)
+    scan::key_cell(map, codes, s, l, 0)
 }
 
-// As `line_best`, by the context m at the line's first cell: the constants ask for none.
+// As `line_best`, by the row m of the line's first cell: the constants ask for none.
 pub fn best_by(
     src: &[f32],
     map: &[u8],
@@ -257,21 +298,22 @@ pub fn best_by(
     n: usize,
     lambda: f32,
     ctx: usize,
-    m: context::Near,
+    m: near::Key,
+    codes: &[u8; 4096],
 ) -> Choice
     requires { ⌜ Sound s (length (now src)) × (length (now src) ≤ length (now map)) × (l < s .lines) × (ctx ≤ 3) ⌝ }
-    requires { ⌜ (2 ≤ n) × (n ≤ 8) × (length (now costs) ≡ 301) × Below (now map) n × (m ≡ firstNear (now map) s l) ⌝ }
+    requires { ⌜ (2 ≤ n) × (n ≤ 8) × (length (now costs) ≡ 301) × Below (now map) n × (m ≡ keyIn (now map) s l 0)
+        × (now codes ≡ codeTable) ⌝ }
     ensures { λ r. ⌜ r ≡ bestOf (now (src .entry)) (now (costs .entry)) (now (colors .entry)) n lambda s (now (map .entry)) l ctx ⌝ }
 {
-    let k = m.ctx;
-    let v = m.first as usize;
-    let rates = cells::rates(costs, n, k, l == 0);
+    let k = m.row;
+    let rates = cells::rates(costs, n, m.ctx, l == 0);
     let dists = const_dists(src, colors, s, l);
     let row = row_cost(costs, ctx, 1);
-    let zero = constant(&dists, &rates, v, row, 0);
+    let zero = constant(&dists, &rates, codes, k, row, 0);
     let copy = row_cost(costs, ctx, 2);
     let from = first_of(src, map, colors, s, l, copy, zero);
-    best_const(&dists, &rates, v, row, n, lambda, from)
+    best_const(&dists, &rates, codes, k, row, n, lambda, from)
 }
 
 // The cheapest of copy and constants.
@@ -285,13 +327,14 @@ fn line_best(
     n: usize,
     lambda: f32,
     ctx: usize,
+    codes: &[u8; 4096],
 ) -> Choice
     requires { ⌜ Sound s (length (now src)) × (length (now src) ≤ length (now map)) × (l < s .lines) × (ctx ≤ 3) ⌝ }
-    requires { ⌜ (2 ≤ n) × (n ≤ 8) × (length (now costs) ≡ 301) × Below (now map) n ⌝ }
+    requires { ⌜ (2 ≤ n) × (n ≤ 8) × (length (now costs) ≡ 301) × Below (now map) n × (now codes ≡ codeTable) ⌝ }
     ensures { λ r. ⌜ r ≡ bestOf (now (src .entry)) (now (costs .entry)) (now (colors .entry)) n lambda s (now (map .entry)) l ctx ⌝ }
 {
-    let m = first_near(map, s, l);
-    best_by(src, map, costs, colors, s, l, n, lambda, ctx, m)
+    let m = first_key(map, codes, s, l);
+    best_by(src, map, costs, colors, s, l, n, lambda, ctx, m, codes)
 }
 
 // The constant or the copy into the map.
@@ -320,11 +363,17 @@ pub fn choose_from(
     lambda: f32,
     ctx: usize,
     best: Choice,
+    orders: &[u8; 4096],
+    codes: &[u8; 4096],
+    marks: &[f32; 8],
+    cap: f32,
+    skips: &[bool; 64],
 ) -> Choice
     requires { ⌜ Sound s (length (now src)) × (length (now src) ≤ length (now map)) × (length (now map) ≤ 4096) × (l < s .lines)
         × (ctx ≤ 3) ⌝ }
     requires { ⌜ (2 ≤ n) × (n ≤ 8) × (length (now costs) ≡ 301) × Below (now map) n × Priced (now costs) lambda
-        × (best ≡ bestOf (now src) (now costs) (now colors) n lambda s (now map) l ctx) ⌝ }
+        × (best ≡ bestOf (now src) (now costs) (now colors) n lambda s (now map) l ctx)
+        × Tables (now orders) (now codes) × Sure (now costs) n cap (now skips) ⌝ }
     ensures { λ r. ⌜ r ≡ lineOf (now (src .entry)) (now (costs .entry)) (now (colors .entry)) n lambda s (now (map .entry)) l ctx ⌝ }
     ensures { λ r. ⌜ now (map .exit) ≡ putLine (now (src .entry)) (now (costs .entry)) (now (colors .entry)) n lambda s
         (now (map .entry)) l ctx r ⌝ }
@@ -332,7 +381,23 @@ pub fn choose_from(
     let row = row_cost(costs, ctx, 0);
     let c = best.cost;
     let limit = cells::total(c, lambda);
-    let own = cell_by_cell(src, map, costs, colors, s, l, n, lambda, row, limit);
+    let own = cell_by_cell(
+        src,
+        map,
+        costs,
+        colors,
+        s,
+        l,
+        n,
+        lambda,
+        row,
+        limit,
+        orders,
+        codes,
+        marks,
+        cap,
+        skips,
+    );
     if cells::total(own, lambda) < limit {
         return Choice {
             cost: own,
@@ -355,16 +420,38 @@ fn choose_line(
     n: usize,
     lambda: f32,
     ctx: usize,
+    orders: &[u8; 4096],
+    codes: &[u8; 4096],
+    marks: &[f32; 8],
+    cap: f32,
+    skips: &[bool; 64],
 ) -> Choice
     requires { ⌜ Sound s (length (now src)) × (length (now src) ≤ length (now map)) × (length (now map) ≤ 4096) × (l < s .lines)
         × (ctx ≤ 3) ⌝ }
-    requires { ⌜ (2 ≤ n) × (n ≤ 8) × (length (now costs) ≡ 301) × Below (now map) n × Priced (now costs) lambda ⌝ }
+    requires { ⌜ (2 ≤ n) × (n ≤ 8) × (length (now costs) ≡ 301) × Below (now map) n × Priced (now costs) lambda
+        × Tables (now orders) (now codes) × Sure (now costs) n cap (now skips) ⌝ }
     ensures { λ r. ⌜ r ≡ lineOf (now (src .entry)) (now (costs .entry)) (now (colors .entry)) n lambda s (now (map .entry)) l ctx ⌝ }
     ensures { λ r. ⌜ now (map .exit) ≡ putLine (now (src .entry)) (now (costs .entry)) (now (colors .entry)) n lambda s
         (now (map .entry)) l ctx r ⌝ }
 {
-    let best = line_best(src, map, costs, colors, s, l, n, lambda, ctx);
-    choose_from(src, map, costs, colors, s, l, n, lambda, ctx, best)
+    let best = line_best(src, map, costs, colors, s, l, n, lambda, ctx, codes);
+    choose_from(
+        src,
+        map,
+        costs,
+        colors,
+        s,
+        l,
+        n,
+        lambda,
+        ctx,
+        best,
+        orders,
+        codes,
+        marks,
+        cap,
+        skips,
+    )
 }
 
 pub fn wide(x: u8) -> usize
@@ -373,7 +460,7 @@ pub fn wide(x: u8) -> usize
     x as usize
 }
 
-// The map and its flags, line by line, until the bound is reached.
+// The map and its flags, line by line, until the bound is reached. The tables are lent, and what is made once for a size.
 pub fn build_map(
     src: &[f32],
     costs: &[f32],
@@ -385,10 +472,16 @@ pub fn build_map(
     bound: f32,
     map: &mut [u8],
     flags: &mut [u8],
+    orders: &[u8; 4096],
+    codes: &[u8; 4096],
+    marks: &[f32; 8],
+    cap: f32,
+    skips: &[bool; 64],
 ) -> MapResult
     requires { ⌜ Sound s (length (now src)) × (length (now src) ≤ length (now map)) × (length (now map) ≤ 4096)
         × (s .lines ≤ length (now flags)) ⌝ }
-    requires { ⌜ (2 ≤ n) × (n ≤ 8) × (length (now costs) ≡ 301) × Below (now map) n × Priced (now costs) lambda ⌝ }
+    requires { ⌜ (2 ≤ n) × (n ≤ 8) × (length (now costs) ≡ 301) × Below (now map) n × Priced (now costs) lambda
+        × Tables (now orders) (now codes) × Sure (now costs) n cap (now skips) ⌝ }
     ensures { λ r. ⌜ Built (mapOf (now (src .entry)) (now (costs .entry)) (now (colors .entry)) n lambda s head bound
         (now (map .entry)) (now (flags .entry))) r (now (map .exit)) (now (flags .exit)) ⌝ }
 {
@@ -399,7 +492,22 @@ pub fn build_map(
     let mut ctx: usize = 3;
     let mut l: usize = 0;
     while l < s.lines {
-        let c = choose_line(src, map, costs, colors, s, l, n, lambda, ctx);
+        let c = choose_line(
+            src,
+            map,
+            costs,
+            colors,
+            s,
+            l,
+            n,
+            lambda,
+            ctx,
+            orders,
+            codes,
+            marks,
+            cap,
+            skips,
+        );
         flags[l] = c.flag;
         let d = c.cost;
         cost = cells::plus(cost, d);

@@ -14,7 +14,7 @@ pub struct Key {
 }
 
 // One neighbour has the order of three equal ones, and context 0.
-fn edge_key(near: Index) -> Key
+pub fn edge_key(near: Index) -> Key
     requires { ⌜ near .0 < 8 ⌝ }
     ensures { λ r. ⌜ r ≡ edgeKey (near .0) ⌝ }
 {

@@ -1,5 +1,6 @@
 -- Document 02, L7: what three neighbours below 8 answer, row after row in two tables. Assumes nothing.
 use Prim.Native.Nat.{ℕ, zero, suc, _+_, _*_, _/_, _%_, _<_}
+use mathlib.Core.Path.{_≡_}
 use mathlib.Core.List.{List, [], _∷_, _++_}
 use Rattle.context.specs.Order.{Around, byThree, orderOf, rankOf}
 
@@ -39,3 +40,8 @@ orderTable = rowsFrom orderRow 0 512
 
 unfoldable pub codeTable : List ℕ
 codeTable = rowsFrom codeRow 0 512
+
+-- what is lent: both tables
+pub record Tables (orders codes : List ℕ) : Type 0 where
+  pub order : orders ≡ orderTable
+  pub code : codes ≡ codeTable

@@ -25,12 +25,12 @@ by-least lambda least t least' best next best' e f (inr w) =
     (rw (rw (e, f) at (w .0)) (w .1), w .2 ∙ e ∙ ap (total lambda) (sym (w .1)))
 
 abbrev Inv-loop : tie.InvT-loop
-Inv-loop dists rates v row n lambda best₀ least₀ c₀ best least c =
-    (cheapest (total lambda) best (constantsBy dists rates v row c (n - c)) ≡ cheapest (total lambda) best₀ (constantsBy dists rates v row 0 n))
+Inv-loop dists rates codes k row n lambda best₀ least₀ c₀ best least c =
+    (cheapest (total lambda) best (constantsBy dists rates k row c (n - c)) ≡ cheapest (total lambda) best₀ (constantsBy dists rates k row 0 n))
     × (c ≤ n) × (least ≡ total lambda best)
 
 abbrev μ-loop : tie.MeasureT-loop
-μ-loop dists rates v row n lambda best₀ least₀ c₀ best least c = n - c
+μ-loop dists rates codes k row n lambda best₀ least₀ c₀ best least c = n - c
 
 total-requires : tie.Need-total-requires Inv-loop μ-loop
 total-requires c κs = search needs
@@ -39,7 +39,9 @@ loop-holds : tie.Need-loop-holds Inv-loop μ-loop
 loop-holds c = (rw sub-zero refl, omega arith, c .total .ensures)
 
 constant-requires : tie.Need-constant-requires Inv-loop μ-loop
-constant-requires c κs = (omega (arith, c .before .before .before .pre .0), c .before .before .before .pre .1)
+constant-requires c κs =
+    let s = c .before .before .before in
+    (omega (arith, s .pre .0), s .pre .1, s .pre .2)
 
 total-requires-2 : tie.Need-total-requires-2 Inv-loop μ-loop
 total-requires-2 c κs = search needs

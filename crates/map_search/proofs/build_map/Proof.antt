@@ -15,14 +15,14 @@ use Rattle.map_search.proofs.build_map.Statement.{statement}
 use Rattle.map_search.proofs.build_map.Tie as tie
 
 abbrev Inv-loop : tie.InvT-loop
-Inv-loop src costs colors s n lambda head bound map₀ flags₀ cost₀ ctx₀ l₀ map flags cost ctx l =
+Inv-loop src costs colors s n lambda head bound map₀ flags₀ orders codes marks cap skips cost₀ ctx₀ l₀ map flags cost ctx l =
     (restOf src costs colors n lambda s head bound (s .lines - l) l
     (record { map = map; flags = flags; ctx = ctx; cost = cost })
     ≡ mapOf src costs colors n lambda s head bound map₀ flags₀)
     × (length map ≡ length map₀) × (length flags ≡ length flags₀) × Below map n × (ctx ≤ 3) × (l ≤ s .lines)
 
 abbrev μ-loop : tie.MeasureT-loop
-μ-loop src costs colors s n lambda head bound map₀ flags₀ cost₀ ctx₀ l₀ map flags cost ctx l = s .lines - l
+μ-loop src costs colors s n lambda head bound map₀ flags₀ orders codes marks cap skips cost₀ ctx₀ l₀ map flags cost ctx l = s .lines - l
 
 -- after the costs were added, one line more
 module _ (c : tie.After-plus Inv-loop μ-loop) where
@@ -87,7 +87,7 @@ choose-line-requires c κs =
     let p : length (now (S .args .src)) ≤ length (l .map) = omega (arith, S .pre .0 .1, l .inv .1) in
     let q : length (l .map) ≤ 4096 = omega (arith, S .pre .0 .2, l .inv .1) in (
       (S .pre .0 .0, p, q, c .before .if1 .taken, l .inv .4),
-      (S .pre .1 .0, S .pre .1 .1, S .pre .1 .2, l .inv .3, S .pre .1 .4),
+      (S .pre .1 .0, S .pre .1 .1, S .pre .1 .2, l .inv .3, S .pre .1 .4, S .pre .1 .5, S .pre .1 .6),
     )
 
 slice-write-flags : tie.Need-slice-write-flags Inv-loop μ-loop

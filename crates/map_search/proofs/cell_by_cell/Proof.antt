@@ -16,12 +16,12 @@ use Rattle.map_search.proofs.cell_by_cell.Statement.{statement}
 use Rattle.map_search.proofs.cell_by_cell.Tie as tie
 
 abbrev Inv-loop : tie.InvT-loop
-Inv-loop src map₀ costs colors s l n lambda row limit cost₀ a₀ map cost a =
+Inv-loop src map₀ costs colors s l n lambda row limit orders codes marks cap skips cost₀ a₀ map cost a =
     (map ≡ cellsOf src costs colors n lambda s map₀ l row a .map) × (cost ≡ cellsOf src costs colors n lambda s map₀ l row a .cost)
     × (length map ≡ length map₀) × (a ≤ s .len)
 
 abbrev μ-loop : tie.MeasureT-loop
-μ-loop src map₀ costs colors s l n lambda row limit cost₀ a₀ map cost a = s .len - a
+μ-loop src map₀ costs colors s l n lambda row limit orders codes marks cap skips cost₀ a₀ map cost a = s .len - a
 
 -- in the loop, and after one cell more
 abbrev start : tie.Then1 Inv-loop μ-loop → tie.Start Inv-loop μ-loop
@@ -83,7 +83,7 @@ one-cell-requires c κs =
     let l = c .before .before .before .loop in
     let h : length (now (S .args .src)) ≤ length (l .map) = omega (arith, S .pre .0 .1, l .inv .2) in (
       (S .pre .0 .0, h, S .pre .0 .2, c .before .if1 .taken),
-      (S .pre .1 .0, S .pre .1 .1, S .pre .1 .2, below (c .before)),
+      (S .pre .1 .0, S .pre .1 .1, S .pre .1 .2, below (c .before), S .pre .1 .4, S .pre .1 .5, S .pre .1 .6),
     )
 
 place-requires : tie.Need-place-requires Inv-loop μ-loop

@@ -1,37 +1,49 @@
+use native.Mathlib.Omega.{arith}
 use mathlib.Core.Path.{refl}
+use Rattle.rows.proofs.Laws.{rank-eight}
 use borrow.Author.Needs.{needs}
 use Rattle.map_search.proofs.constant.Statement.{statement}
 use Rattle.map_search.proofs.constant.Tie as tie
 
-rank-by-requires : tie.Need-rank-by-requires
-rank-by-requires c κs = search needs
+cast-t9 : tie.Need-cast-t9
+cast-t9 c = search needs
 
-mul-t8 : tie.Need-mul-t8
-mul-t8 c = search needs
+rank-at-requires : tie.Need-rank-at-requires
+rank-at-requires c κs = search needs
 
-element-copy-out-t11 : tie.Need-element-copy-out-t11
-element-copy-out-t11 c = search needs
+mul-t11 : tie.Need-mul-t11
+mul-t11 c = search needs
 
-mul-t12 : tie.Need-mul-t12
-mul-t12 c = search needs
+element-copy-out-t14 : tie.Need-element-copy-out-t14
+element-copy-out-t14 c = search needs
 
-element-copy-out-t15 : tie.Need-element-copy-out-t15
-element-copy-out-t15 c = search needs
+cast-t15 : tie.Need-cast-t15
+cast-t15 c = search needs
 
-cast-t17 : tie.Need-cast-t17
-cast-t17 c = search needs
+mul-t16 : tie.Need-mul-t16
+mul-t16 c = search needs
+
+element-copy-out-t19 : tie.Need-element-copy-out-t19
+element-copy-out-t19 c =
+    let s = c .before .before .before in
+    omega (arith, c .before .before .rank-at .ensures, rank-eight (s .args .k) (s .args .c) (s .pre .1) (s .pre .0))
+
+cast-t9-2 : tie.Need-cast-t9-2
+cast-t9-2 c = search needs
 
 returns : tie.Need-returns
-returns c = rw (c .before .before .rank-by .ensures .0) refl
+returns c = rw (c .before .before .before .rank-at .ensures) refl
 
 pub constant-spec : {M : Type 1} → statement M
 constant-spec =
     tie.close
     (tie.spec
-    rank-by-requires
-    mul-t8
-    element-copy-out-t11
-    mul-t12
-    element-copy-out-t15
-    cast-t17
+    cast-t9
+    rank-at-requires
+    mul-t11
+    element-copy-out-t14
+    cast-t15
+    mul-t16
+    element-copy-out-t19
+    cast-t9-2
     returns)
