@@ -19,7 +19,8 @@ use Rattle.context.specs.Map.{linesOf}
 use Rattle.near.specs.Near.{Below}
 use Rattle.scan.specs.Scan.{scanOf, Sound}
 use Rattle.map_search.specs.Lines.{mapOf}
-use Rattle.map_search.specs.Parts.{Priced, Built}
+use Rattle.cells.specs.Sure.{Priced}
+use Rattle.map_search.specs.Parts.{Built}
 use Rattle.scan.specs.declared.Scan.{Scan}
 use Rattle.map_search.specs.declared.MapResult.{MapResult}
 use Rattle.map_search.specs.declared.MapResult.the-variants.{Found}

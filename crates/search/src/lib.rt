@@ -11,11 +11,12 @@ ghost use lib.ListN.{length, replicate};
 ghost use lib.Ieee.{Float, binary32};
 ghost use Rattle.ieee.specs.Numbers.{nat};
 ghost use Rattle.context.specs.Map.{linesOf};
+ghost use Rattle.rows.specs.Rows.{Tables};
 ghost use Rattle.map_search.specs.Parts.{Built};
 ghost use Rattle.sizes.specs.Known.{Known};
 ghost use Rattle.search.specs.Search.{Standing, judged, mapIn, tried, triedBoth, searched, histogramIn, foundIn, Searches};
 ghost use Rattle.search.specs.Search.{largeOk, faultOf, levelsFault};
-ghost use Rattle.search.specs.Steps.{priceFault, Passed, Stands, Written};
+ghost use Rattle.search.specs.Steps.{priceFault, Passed, Sized, Stands, Written};
 
 // The best map so far, but for its cells and flags.
 pub struct Best {
@@ -152,20 +153,25 @@ pub fn map_in(
     bound: f32,
     cells: &mut [u8],
     lines: &mut [u8],
+    orders: &[u8; 4096],
+    codes: &[u8; 4096],
+    colours: &[f32; 8],
+    marks: &[f32; 8],
+    cap: f32,
+    skips: &[bool; 64],
 ) -> MapResult
     requires { ⌜ Passed (now samples) (now costs) b (b .width * b .height) 64 × (2 ≤ z .n) × (z .n ≤ 8) ⌝ }
     requires { ⌜ (now cells ≡ replicate (b .width * b .height) 0)
-        × (now lines ≡ replicate (linesOf transposed (b .width) (b .height)) 0) ⌝ }
+        × (now lines ≡ replicate (linesOf transposed (b .width) (b .height)) 0)
+        × Tables (now orders) (now codes) × Sized (now costs) z (now colours) cap (now skips) ⌝ }
     ensures { λ r. ⌜ Built (mapIn (now (samples .entry)) (now (costs .entry)) b z transposed bound) r
         (now (cells .exit)) (now (lines .exit)) ⌝ }
 {
     let s = scan::scan_of(b.width, b.height, transposed);
-    let colors = z.colors;
-    let colours = values(colors);
     map_search::build_map(
         samples,
         costs,
-        &colours,
+        colours,
         s,
         z.n,
         b.lambda,
@@ -173,6 +179,11 @@ pub fn map_in(
         bound,
         cells,
         lines,
+        orders,
+        codes,
+        marks,
+        cap,
+        skips,
     )
 }
 
@@ -188,14 +199,36 @@ fn try_in(
     lines: &mut [u8],
     map: &mut [u8],
     flags: &mut [u8],
+    orders: &[u8; 4096],
+    codes: &[u8; 4096],
+    colours: &[f32; 8],
+    marks: &[f32; 8],
+    cap: f32,
+    skips: &[bool; 64],
 ) -> Best
     requires { ⌜ Passed (now samples) (now costs) b (length (now map)) (length (now flags)) × (2 ≤ z .n) × (z .n ≤ 8) ⌝ }
     requires { ⌜ (now cells ≡ replicate (b .width * b .height) 0)
-        × (now lines ≡ replicate (linesOf transposed (b .width) (b .height)) 0) ⌝ }
+        × (now lines ≡ replicate (linesOf transposed (b .width) (b .height)) 0)
+        × Tables (now orders) (now codes) × Sized (now costs) z (now colours) cap (now skips) ⌝ }
     ensures { λ r. ⌜ ((s : Standing) → Stands s best (now (map .entry)) (now (flags .entry))
         → Stands (tried (now (samples .entry)) (now (costs .entry)) b z transposed s) r (now (map .exit)) (now (flags .exit))) ⌝ }
 {
-    let found = map_in(samples, costs, b, z, transposed, best.total, cells, lines);
+    let found = map_in(
+        samples,
+        costs,
+        b,
+        z,
+        transposed,
+        best.total,
+        cells,
+        lines,
+        orders,
+        codes,
+        colours,
+        marks,
+        cap,
+        skips,
+    );
     match found {
         MapResult::Beaten => best,
         MapResult::Found(error, bits) => judge(
@@ -223,8 +256,15 @@ fn try_scan(
     best: Best,
     map: &mut [u8],
     flags: &mut [u8],
+    orders: &[u8; 4096],
+    codes: &[u8; 4096],
+    colours: &[f32; 8],
+    marks: &[f32; 8],
+    cap: f32,
+    skips: &[bool; 64],
 ) -> Best
-    requires { ⌜ Passed (now samples) (now costs) b (length (now map)) (length (now flags)) × (2 ≤ z .n) × (z .n ≤ 8) ⌝ }
+    requires { ⌜ Passed (now samples) (now costs) b (length (now map)) (length (now flags)) × (2 ≤ z .n) × (z .n ≤ 8)
+        × Tables (now orders) (now codes) × Sized (now costs) z (now colours) cap (now skips) ⌝ }
     ensures { λ r. ⌜ ((s : Standing) → Stands s best (now (map .entry)) (now (flags .entry))
         → Stands (tried (now (samples .entry)) (now (costs .entry)) b z transposed s) r (now (map .exit)) (now (flags .exit))) ⌝ }
 {
@@ -242,10 +282,74 @@ fn try_scan(
         &mut lines[..count],
         map,
         flags,
+        orders,
+        codes,
+        colours,
+        marks,
+        cap,
+        skips,
     )
 }
 
 // A size, plain and then transposed.
+fn try_both(
+    samples: &[f32],
+    costs: &[f32],
+    b: Block,
+    z: Size,
+    best: Best,
+    map: &mut [u8],
+    flags: &mut [u8],
+    orders: &[u8; 4096],
+    codes: &[u8; 4096],
+    colours: &[f32; 8],
+    marks: &[f32; 8],
+    cap: f32,
+    skips: &[bool; 64],
+) -> Best
+    requires { ⌜ Passed (now samples) (now costs) b (length (now map)) (length (now flags)) × (2 ≤ z .n) × (z .n ≤ 8)
+        × Tables (now orders) (now codes) × Sized (now costs) z (now colours) cap (now skips) ⌝ }
+    ensures { λ r. ⌜ ((s : Standing) → Stands s best (now (map .entry)) (now (flags .entry))
+        → Stands (triedBoth (now (samples .entry)) (now (costs .entry)) b z s) r (now (map .exit)) (now (flags .exit))) ⌝ }
+{
+    let plain = try_scan(
+        samples,
+        costs,
+        b,
+        z,
+        false,
+        best,
+        map,
+        flags,
+        orders,
+        codes,
+        colours,
+        marks,
+        cap,
+        skips,
+    );
+    if !counts::orient_sent(b.width, b.height) {
+        return plain;
+    }
+    try_scan(
+        samples,
+        costs,
+        b,
+        z,
+        true,
+        plain,
+        map,
+        flags,
+        orders,
+        codes,
+        colours,
+        marks,
+        cap,
+        skips,
+    )
+}
+
+// As `try_both`, with what is the same for both maps made here.
 fn try_size(
     samples: &[f32],
     costs: &[f32],
@@ -254,16 +358,34 @@ fn try_size(
     best: Best,
     map: &mut [u8],
     flags: &mut [u8],
+    orders: &[u8; 4096],
+    codes: &[u8; 4096],
 ) -> Best
-    requires { ⌜ Passed (now samples) (now costs) b (length (now map)) (length (now flags)) × (2 ≤ z .n) × (z .n ≤ 8) ⌝ }
+    requires { ⌜ Passed (now samples) (now costs) b (length (now map)) (length (now flags)) × (2 ≤ z .n) × (z .n ≤ 8)
+        × Tables (now orders) (now codes) ⌝ }
     ensures { λ r. ⌜ ((s : Standing) → Stands s best (now (map .entry)) (now (flags .entry))
         → Stands (triedBoth (now (samples .entry)) (now (costs .entry)) b z s) r (now (map .exit)) (now (flags .exit))) ⌝ }
 {
-    let plain = try_scan(samples, costs, b, z, false, best, map, flags);
-    if !counts::orient_sent(b.width, b.height) {
-        return plain;
-    }
-    try_scan(samples, costs, b, z, true, plain, map, flags)
+    let colors = z.colors;
+    let colours = values(colors);
+    let marks = cells::marks_of(&colours, z.n);
+    let cap = cells::cap_of(costs, z.n);
+    let skips = cells::skips_of(z.n);
+    try_both(
+        samples,
+        costs,
+        b,
+        z,
+        best,
+        map,
+        flags,
+        orders,
+        codes,
+        &colours,
+        &marks,
+        cap,
+        &skips,
+    )
 }
 
 // The sizes by ascending `lb`, up to one that is not below the best.
@@ -276,9 +398,12 @@ fn best_of(
     cuts: &[usize; 297],
     map: &mut [u8],
     flags: &mut [u8],
+    orders: &[u8; 4096],
+    codes: &[u8; 4096],
 ) -> Best
     requires { ⌜ Known (now costs) b h (now table) (now cuts)
-        × Passed (now samples) (now costs) b (length (now map)) (length (now flags)) ⌝ }
+        × Passed (now samples) (now costs) b (length (now map)) (length (now flags))
+        × Tables (now orders) (now codes) ⌝ }
     ensures { λ r. ⌜ Stands (searched (now (samples .entry)) (now (costs .entry)) b h) r (now (map .exit)) (now (flags .exit)) ⌝ }
 {
     let lbs = sizes::lbs_of(costs, b, h, table, cuts);
@@ -296,7 +421,7 @@ fn best_of(
             return best;
         }
         let z = sizes::size_of(costs, b, h, table, cuts, k);
-        best = try_size(samples, costs, b, z, best, map, flags);
+        best = try_size(samples, costs, b, z, best, map, flags, orders, codes);
         left[k] = false;
         k = sizes::next_size(&lbs, &left);
     }
@@ -313,17 +438,30 @@ fn search_in(
     lines: &mut [u8],
     map: &mut [u8],
     flags: &mut [u8],
+    orders: &[u8; 4096],
+    codes: &[u8; 4096],
 ) -> Palette
     requires { ⌜ Passed (now samples) (now costs) b (length (now map)) (length (now flags))
         × (length (now cells) ≡ 4096) × (length (now lines) ≡ 64) ⌝ }
-    requires { ⌜ (h ≡ histogramIn (now samples)) × (2 ≤ h .n) × (h .n ≤ 32) ⌝ }
+    requires { ⌜ (h ≡ histogramIn (now samples)) × (2 ≤ h .n) × (h .n ≤ 32) × Tables (now orders) (now codes) ⌝ }
     ensures { λ r. ⌜ Written (foundIn (now (samples .entry)) (now (costs .entry)) b)
         (now (map .entry)) (now (map .exit)) (now (flags .entry)) (now (flags .exit)) r ⌝ }
 {
     let t = groups::tables_of(h, sizes::last_size(h.n));
     let table = t.costs;
     let cuts = t.cuts;
-    let best = best_of(samples, costs, b, h, &table, &cuts, cells, lines);
+    let best = best_of(
+        samples,
+        costs,
+        b,
+        h,
+        &table,
+        &cuts,
+        cells,
+        lines,
+        orders,
+        codes,
+    );
     lists::copy_bytes(cells, b.width * b.height, map);
     lists::copy_bytes(
         lines,
@@ -340,7 +478,7 @@ fn search_in(
     }
 }
 
-// The palette of a block that has passed the tests.
+// The palette of a block that has passed the tests; the tables are made here, once.
 fn search_levels(
     samples: &[f32],
     costs: &[f32],
@@ -356,7 +494,20 @@ fn search_levels(
 {
     let mut cells = [0u8; 4096];
     let mut lines = [0u8; 64];
-    search_in(samples, costs, b, h, &mut cells, &mut lines, map, flags)
+    let orders = rows::orders();
+    let codes = rows::codes();
+    search_in(
+        samples,
+        costs,
+        b,
+        h,
+        &mut cells,
+        &mut lines,
+        map,
+        flags,
+        &orders,
+        &codes,
+    )
 }
 
 // As `search`, for lambda and costs that were tested before: `price` is their number.

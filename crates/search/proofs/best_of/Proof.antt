@@ -17,11 +17,11 @@ use Rattle.search.proofs.best_of.Statement.{statement}
 use Rattle.search.proofs.best_of.Tie as tie
 
 abbrev Inv-loop : tie.InvT-loop
-Inv-loop samples costs b h table cuts map₀ flags₀ lbs left₀ best₀ k₀ map flags left best k =
+Inv-loop samples costs b h table cuts map₀ flags₀ orders codes lbs left₀ best₀ k₀ map flags left best k =
     (length map ≡ length map₀) × (length flags ≡ length flags₀) × Walking samples costs b h lbs left best k map flags
 
 abbrev μ-loop : tie.MeasureT-loop
-μ-loop samples costs b h table cuts map₀ flags₀ lbs left₀ best₀ k₀ map flags left best k = length (opened left)
+μ-loop samples costs b h table cuts map₀ flags₀ orders codes lbs left₀ best₀ k₀ map flags left best k = length (opened left)
 
 over-zero : div binary32 (ofBits binary32 1065353216) (ofBits binary32 0) ≡ inf false
 unfolding ofBits div
@@ -102,7 +102,7 @@ try-size-requires c κs =
     let lengths = t .before .loop .inv in
     let size = known t in
     let is = c .before .before .size-of .ensures in
-    (still-passed _ _ (start (t .before) .pre .1) (lengths .0) (lengths .1), rw is (size .0), rw is (size .1))
+    (still-passed _ _ (start (t .before) .pre .1) (lengths .0) (lengths .1), rw is (size .0), rw is (size .1), start (t .before) .pre .2)
 
 array-write-left : tie.Need-array-write-left Inv-loop μ-loop
 array-write-left c =

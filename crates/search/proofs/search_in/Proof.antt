@@ -68,6 +68,7 @@ best-of-requires c κs =
     let tables = c .before .before .before .before .before .before .tables-of .ensures in (
       known (ready-of (pre .0 .0)) (levels .0) (levels .1) (levels .2) _ _ _ (last .last-size .ensures) tables,
       passed-aside (pre .0 .0) _ _ (pre .0 .1) (pre .0 .2),
+      levels .3,
     )
 
 mul-copy-bytes : tie.Need-mul-copy-bytes

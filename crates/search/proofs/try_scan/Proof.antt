@@ -44,7 +44,8 @@ try-in-requires c κs =
     let l = c .before .before .before .before .before in
     let s = l .before .before .before .before .before in
     let lines = take-zeros _ 64 (lines-fit l) ∙ ap (λ k. replicate {A = ℕ} k 0) (l .lines-of .ensures) in
-    (s .pre, (take-zeros _ 4096 (cells-fit s), lines))
+    let passed = s .pre in
+    ((passed .0, passed .1, passed .2), (take-zeros _ 4096 (cells-fit s), lines, passed .3, passed .4))
 
 same-length : tie.Need-same-length
 same-length c = search needs

@@ -1,15 +1,38 @@
-use Rattle.lists.proofs.Choice.{fails, holds}
-use Rattle.search.specs.Search.{triedBoth}
-use Rattle.search.proofs.Tries.{still-passed}
+use denote.Ref.{now}
+use Rattle.samples.proofs.Ranges.{costs-count}
+use Rattle.search.proofs.Passed.{ready-of}
 use borrow.Author.Needs.{needs}
 use Rattle.search.proofs.try_size.Statement.{statement}
 use Rattle.search.proofs.try_size.Tie as tie
 
-try-scan-requires : tie.Need-try-scan-requires
-try-scan-requires c κs = search needs
+values-requires : tie.Need-values-requires
+values-requires c κs = search needs
 
-orient-sent-requires : tie.Need-orient-sent-requires
-orient-sent-requires c κs = search needs
+marks-of-requires : tie.Need-marks-of-requires
+marks-of-requires c κs = search needs
+
+cap-of-requires : tie.Need-cap-of-requires
+cap-of-requires c κs =
+    let s = c .before .before .before .before .before .before .before .before in
+    (s .pre .1, s .pre .2, costs-count (now (s .args .costs)) (ready-of (s .pre .0) .priced))
+
+skips-of-requires : tie.Need-skips-of-requires
+skips-of-requires c κs = search needs
+
+try-both-requires : tie.Need-try-both-requires
+try-both-requires c κs =
+    let skipped = c .before .before .before .before .before in
+    let valued = skipped .before .before .before .before in
+    let passed = valued .before .before .before .before .before .before .pre in (
+      passed .0,
+      passed .1,
+      passed .2,
+      passed .3,
+      record {
+        values = valued .values .ensures;
+        sure = record { capped = skipped .before .cap-of .ensures; skipped = skipped .skips-of .ensures };
+      },
+    )
 
 same-length : tie.Need-same-length
 same-length c = search needs
@@ -18,42 +41,17 @@ same-length-2 : tie.Need-same-length-2
 same-length-2 c = search needs
 
 returns : tie.Need-returns
-unfolding triedBoth
-returns c =
-    let plain = c .before .before .before .before .before .before .try-scan .ensures in
-    λ s S. rw (fails _ _ (c .before .orient-sent .ensures) (c .if1 .taken)) (plain s S)
-
-try-scan-requires-2 : tie.Need-try-scan-requires-2
-try-scan-requires-2 c κs =
-    let plain = c .before .before .before .before .before .before .before .before in
-    let passed = plain .before .before .before .before .before .before .before .pre in
-    let kept = plain .try-scan .kept .1 .1 .1 .1 .1 .1 in
-    (still-passed _ _ (passed .0) (kept .0) (kept .1 .0), passed .1, passed .2)
-
-same-length-3 : tie.Need-same-length-3
-same-length-3 c = search needs
-
-same-length-4 : tie.Need-same-length-4
-same-length-4 c = search needs
-
-returns-2 : tie.Need-returns-2
-unfolding triedBoth
-returns-2 c =
-    let test = c .before .before .before .before .before .before .before in
-    let plain = test .before .before .before .before .before .before .try-scan .ensures in
-    let transposed = c .before .before .before .before .try-scan2 .ensures in
-    λ s S. rw (holds _ _ (test .before .orient-sent .ensures) (test .if1 .left)) (transposed _ (plain s S))
+returns c = c .before .before .before .before .try-both .ensures
 
 pub try-size-spec : {M : Type 1} → statement M
 try-size-spec =
     tie.close
     (tie.spec
-    try-scan-requires
-    orient-sent-requires
+    values-requires
+    marks-of-requires
+    cap-of-requires
+    skips-of-requires
+    try-both-requires
     same-length
     same-length-2
-    returns
-    try-scan-requires-2
-    same-length-3
-    same-length-4
-    returns-2)
+    returns)
