@@ -1,13 +1,14 @@
 // A test copy of the map search that counts how often the context is asked for constant lines (document 02, L3).
-// The copy is `walk`, of `map_search::build_map` with `choose_line` and `line_best` opened, and `ask`, of `first_near`; it
+// The copy is `walk`, of `map_search::build_map` with `choose_line` and `line_best` opened, and `ask`, of `first_key`; it
 // carries the askings through, and all that is below them is the search's own. The contract of `walk` says the counts, of
-// every map; that `ask` counts where it asks, and asks where `first_near` does, is to be read.
+// every map; that `ask` counts where it asks, and asks where `first_key` does, is to be read.
 // Around it stand copies of the search's walk through the sizes, which promise nothing: what they print is run.
 // The program takes blocks as `replay_blocks` does, and prints a line for each map search: the block's place, the number
 // of colours, the orientation, the lines reached, the askings in the first line, those in later lines, and 1 where the
 // real map search gives the same map, flags, error and bits. The expected lines reached come from the original with a
 // counter, and the expected askings from document 02, never from here (oracle/README.md).
 // Functions here may have a `requires`.
+use context::Index;
 use map_search::MapResult;
 use replaying::BlockHead;
 use replaying::bits_of;
@@ -22,12 +23,14 @@ ghost use lib.Dec.{eqb};
 ghost use lib.ListN.{length, replicate};
 ghost use Rattle.context.specs.Map.{rowAt, colAt, linesOf};
 ghost use Rattle.near.specs.Near.{Below};
-ghost use Rattle.scan.specs.Scan.{Sound};
+ghost use Rattle.rows.specs.Rows.{codeTable, Tables};
+ghost use Rattle.cells.specs.Sure.{Sure, Priced};
+ghost use Rattle.scan.specs.Scan.{keyIn, Sound};
 ghost use Rattle.map_search.specs.Lines.{mapOf};
-ghost use Rattle.map_search.specs.Parts.{firstNear, Priced, Built};
+ghost use Rattle.map_search.specs.Parts.{Built};
 ghost use Rattle.sizes.specs.Known.{Known};
 ghost use Rattle.search.specs.Search.{histogramIn};
-ghost use Rattle.search.specs.Steps.{Passed};
+ghost use Rattle.search.specs.Steps.{Passed, Sized};
 ghost use Rattle.asking.specs.Asking.{linesReached, AskedOnce};
 
 // How often the context was asked for constant lines.
@@ -38,7 +41,7 @@ struct Askings {
 
 // What was asked, and the askings so far.
 struct Asked {
-    pub near: context::Near,
+    pub key: near::Key,
     pub askings: Askings,
 }
 
@@ -66,21 +69,22 @@ fn counted(a: Askings, l: usize) -> Askings
     }
 }
 
-// The copy of `map_search::first_near`.
-fn ask(map: &[u8], s: Scan, l: usize, a: Askings) -> Asked
-    requires { ⌜ rowAt (s .transposed) l 0 * s .w + colAt (s .transposed) l 0 < length (now map) ⌝ }
+// The copy of `map_search::first_key`.
+fn ask(map: &[u8], codes: &[u8; 4096], s: Scan, l: usize, a: Askings) -> Asked
+    requires { ⌜ (rowAt (s .transposed) l 0 * s .w + colAt (s .transposed) l 0 < length (now map)) × Below (now map) 8
+        × (now codes ≡ codeTable) ⌝ }
     requires { ⌜ (a .first < 64) × (a .later < 64) ⌝ }
-    ensures { λ r. ⌜ r .near ≡ firstNear (now (map .entry)) s l ⌝ }
+    ensures { λ r. ⌜ r .key ≡ keyIn (now (map .entry)) s l 0 ⌝ }
     ensures { λ r. ⌜ (r .askings .first ≡ a .first) × (r .askings .later ≡ a .later + cond (eqb l 0) 0 1) ⌝ }
 {
     if l == 0 {
         return Asked {
-            near: near::near_one(0),
+            key: near::edge_key(Index(0)),
             askings: a,
         };
     }
     Asked {
-        near: scan::near_cell(map, s, l, 0),
+        key: scan::key_cell(map, codes, s, l, 0),
         askings: counted(a, l),
     }
 }
@@ -97,10 +101,16 @@ fn walk(
     bound: f32,
     map: &mut [u8],
     flags: &mut [u8],
+    orders: &[u8; 4096],
+    codes: &[u8; 4096],
+    marks: &[f32; 8],
+    cap: f32,
+    skips: &[bool; 64],
 ) -> Walked
     requires { ⌜ Sound s (length (now src)) × (length (now src) ≤ length (now map)) × (length (now map) ≤ 4096)
         × (s .lines ≤ length (now flags)) ⌝ }
-    requires { ⌜ (2 ≤ n) × (n ≤ 8) × (length (now costs) ≡ 301) × Below (now map) n × Priced (now costs) lambda ⌝ }
+    requires { ⌜ (2 ≤ n) × (n ≤ 8) × (length (now costs) ≡ 301) × Below (now map) n × Priced (now costs) lambda
+        × Tables (now orders) (now codes) × Sure (now costs) n cap (now skips) ⌝ }
     ensures { λ r. ⌜ Built (mapOf (now (src .entry)) (now (costs .entry)) (now (colors .entry)) n lambda s head bound
         (now (map .entry)) (now (flags .entry))) (r .found) (now (map .exit)) (now (flags .exit)) ⌝ }
     ensures { λ r. ⌜ AskedOnce r (linesReached (now (src .entry)) (now (costs .entry)) (now (colors .entry)) n lambda s head bound
@@ -114,11 +124,27 @@ fn walk(
     let mut ctx: usize = 3;
     let mut l: usize = 0;
     while l < s.lines {
-        let asked = ask(map, s, l, askings);
+        let asked = ask(map, codes, s, l, askings);
         askings = asked.askings;
-        let m = asked.near;
-        let best = map_search::best_by(src, map, costs, colors, s, l, n, lambda, ctx, m);
-        let c = map_search::choose_from(src, map, costs, colors, s, l, n, lambda, ctx, best);
+        let m = asked.key;
+        let best = map_search::best_by(src, map, costs, colors, s, l, n, lambda, ctx, m, codes);
+        let c = map_search::choose_from(
+            src,
+            map,
+            costs,
+            colors,
+            s,
+            l,
+            n,
+            lambda,
+            ctx,
+            best,
+            orders,
+            codes,
+            marks,
+            cap,
+            skips,
+        );
         flags[l] = c.flag;
         let d = c.cost;
         cost = cells::plus(cost, d);
@@ -149,18 +175,23 @@ fn walk_in(
     bound: f32,
     cells: &mut [u8],
     lines: &mut [u8],
+    orders: &[u8; 4096],
+    codes: &[u8; 4096],
+    colours: &[f32; 8],
+    marks: &[f32; 8],
+    cap: f32,
+    skips: &[bool; 64],
 ) -> Walked
     requires { ⌜ Passed (now samples) (now costs) b (b .width * b .height) 64 × (2 ≤ z .n) × (z .n ≤ 8) ⌝ }
     requires { ⌜ (now cells ≡ replicate (b .width * b .height) 0)
-        × (now lines ≡ replicate (linesOf transposed (b .width) (b .height)) 0) ⌝ }
+        × (now lines ≡ replicate (linesOf transposed (b .width) (b .height)) 0)
+        × Tables (now orders) (now codes) × Sized (now costs) z (now colours) cap (now skips) ⌝ }
 {
     let s = scan::scan_of(b.width, b.height, transposed);
-    let colors = z.colors;
-    let colours = search::values(colors);
     walk(
         samples,
         costs,
-        &colours,
+        colours,
         s,
         z.n,
         b.lambda,
@@ -168,6 +199,11 @@ fn walk_in(
         bound,
         cells,
         lines,
+        orders,
+        codes,
+        marks,
+        cap,
+        skips,
     )
 }
 
@@ -238,14 +274,36 @@ fn count_in(
     lines: &mut [u8],
     real_cells: &mut [u8],
     real_lines: &mut [u8],
+    orders: &[u8; 4096],
+    codes: &[u8; 4096],
+    colours: &[f32; 8],
+    marks: &[f32; 8],
+    cap: f32,
+    skips: &[bool; 64],
 ) -> f32
     requires { ⌜ Passed (now samples) (now costs) b (b .width * b .height) 64 × (2 ≤ z .n) × (z .n ≤ 8) ⌝ }
     requires { ⌜ (now cells ≡ replicate (b .width * b .height) 0)
         × (now lines ≡ replicate (linesOf transposed (b .width) (b .height)) 0) ⌝ }
     requires { ⌜ (now «real_cells» ≡ replicate (b .width * b .height) 0)
-        × (now «real_lines» ≡ replicate (linesOf transposed (b .width) (b .height)) 0) ⌝ }
+        × (now «real_lines» ≡ replicate (linesOf transposed (b .width) (b .height)) 0)
+        × Tables (now orders) (now codes) × Sized (now costs) z (now colours) cap (now skips) ⌝ }
 {
-    let w = walk_in(samples, costs, b, z, transposed, bound, cells, lines);
+    let w = walk_in(
+        samples,
+        costs,
+        b,
+        z,
+        transposed,
+        bound,
+        cells,
+        lines,
+        orders,
+        codes,
+        colours,
+        marks,
+        cap,
+        skips,
+    );
     let found = search::map_in(
         samples,
         costs,
@@ -255,6 +313,12 @@ fn count_in(
         bound,
         real_cells,
         real_lines,
+        orders,
+        codes,
+        colours,
+        marks,
+        cap,
+        skips,
     );
     let walked = w.found;
     let same = same_found(walked, found)
@@ -273,8 +337,15 @@ fn count_scan(
     z: Size,
     transposed: bool,
     bound: f32,
+    orders: &[u8; 4096],
+    codes: &[u8; 4096],
+    colours: &[f32; 8],
+    marks: &[f32; 8],
+    cap: f32,
+    skips: &[bool; 64],
 ) -> f32
-    requires { ⌜ Passed (now samples) (now costs) b (b .width * b .height) 64 × (2 ≤ z .n) × (z .n ≤ 8) ⌝ }
+    requires { ⌜ Passed (now samples) (now costs) b (b .width * b .height) 64 × (2 ≤ z .n) × (z .n ≤ 8)
+        × Tables (now orders) (now codes) × Sized (now costs) z (now colours) cap (now skips) ⌝ }
 {
     let mut cells = [0u8; 4096];
     let mut lines = [0u8; 64];
@@ -294,18 +365,59 @@ fn count_scan(
         &mut lines[..count],
         &mut real_cells[..area],
         &mut real_lines[..count],
+        orders,
+        codes,
+        colours,
+        marks,
+        cap,
+        skips,
     )
 }
 
-// A copy of `search::try_size`.
+// A copy of `search::try_size`, with `try_both` opened.
 fn count_size(place: u64, samples: &[f32], costs: &[f32], b: Block, z: Size, bound: f32) -> f32
     requires { ⌜ Passed (now samples) (now costs) b (b .width * b .height) 64 × (2 ≤ z .n) × (z .n ≤ 8) ⌝ }
 {
-    let plain = count_scan(place, samples, costs, b, z, false, bound);
+    let orders = rows::orders();
+    let codes = rows::codes();
+    let colors = z.colors;
+    let colours = search::values(colors);
+    let marks = cells::marks_of(&colours, z.n);
+    let cap = cells::cap_of(costs, z.n);
+    let skips = cells::skips_of(z.n);
+    let plain = count_scan(
+        place,
+        samples,
+        costs,
+        b,
+        z,
+        false,
+        bound,
+        &orders,
+        &codes,
+        &colours,
+        &marks,
+        cap,
+        &skips,
+    );
     if !counts::orient_sent(b.width, b.height) {
         return plain;
     }
-    count_scan(place, samples, costs, b, z, true, plain)
+    count_scan(
+        place,
+        samples,
+        costs,
+        b,
+        z,
+        true,
+        plain,
+        &orders,
+        &codes,
+        &colours,
+        &marks,
+        cap,
+        &skips,
+    )
 }
 
 // A copy of `search::best_of`. There are at most seven sizes, each of 2 to `last` colours: these tests serve the proof.

@@ -10,17 +10,17 @@ use Rattle.map_search.proofs.Neighbours.{first-line}
 use Rattle.asking.proofs.ask.Statement.{statement}
 use Rattle.asking.proofs.ask.Tie as tie
 
-near-one-requires : tie.Need-near-one-requires
-near-one-requires c κs = search needs
+edge-key-requires : tie.Need-edge-key-requires
+edge-key-requires c κs = search needs
 
 returns : tie.Need-returns
 returns c =
     let a = c .before .before .before .args in
     let at-first = c .before .if1 .taken in
-    (c .near-one .ensures ∙ first-line (now (a .map)) (a .s) (a .l) at-first, (refl, rw (eq-eqb (a .l) 0 at-first) (omega arith)))
+    (c .edge-key .ensures ∙ first-line (now (a .map)) (a .s) (a .l) at-first, (refl, rw (eq-eqb (a .l) 0 at-first) (omega arith)))
 
-near-cell-requires : tie.Need-near-cell-requires
-near-cell-requires c κs = search needs
+key-cell-requires : tie.Need-key-cell-requires
+key-cell-requires c κs = search needs
 
 counted-requires : tie.Need-counted-requires
 counted-requires c κs = search needs
@@ -29,7 +29,7 @@ returns-2 : tie.Need-returns-2
 returns-2 c =
     let a = c .before .before .before .before .args in
     let none : a .a .first + cond (eqb (a .l) 0) 1 0 ≡ a .a .first = rw (ne-eqb (a .l) 0 (c .before .before .if1 .left)) (omega arith) in
-    (c .before .near-cell .ensures, (c .counted .ensures .0 ∙ none, c .counted .ensures .1))
+    (c .before .key-cell .ensures, (c .counted .ensures .0 ∙ none, c .counted .ensures .1))
 
 pub ask-spec : {M : Type 1} → statement M
-ask-spec = tie.close (tie.spec near-one-requires returns near-cell-requires counted-requires returns-2)
+ask-spec = tie.close (tie.spec edge-key-requires returns key-cell-requires counted-requires returns-2)

@@ -55,7 +55,7 @@ count-in-requires c κs =
     let s = l .before .before .before .before in
     let cells = take-zeros _ 4096 (cells-fit s) in
     let lines = take-zeros _ 64 (lines-fit l) ∙ ap (λ k. replicate {A = ℕ} k 0) (l .lines-of .ensures) in
-    (s .pre, ((cells, lines), (cells, lines)))
+    ((s .pre .0, s .pre .1, s .pre .2), ((cells, lines), (cells, lines, s .pre .3, s .pre .4)))
 
 returns : tie.Need-returns
 returns c = search needs

@@ -2,6 +2,7 @@ use Rattle.map_search.proofs.Walk.{Turned, goesOn, next-by, turned, rest-none}
 use Rattle.map_search.specs.declared.Choice.{Choice}
 use Rattle.map_search.specs.Lines.{Walk, reached, restOf, mapOf}
 use Rattle.near.specs.Near.{Below}
+use Rattle.scan.proofs.Fill.{below-8}
 use Rattle.scan.proofs.Scans.{cell-inside}
 use mathlib.Core.Bool.{Bool, true, false, cond}
 use mathlib.Core.List.{List}
@@ -18,7 +19,7 @@ use Rattle.asking.proofs.walk.Statement.{statement}
 use Rattle.asking.proofs.walk.Tie as tie
 
 abbrev Inv-loop : tie.InvT-loop
-Inv-loop src costs colors s n lambda head bound map₀ flags₀ cost₀ askings₀ ctx₀ l₀ map flags cost askings ctx l =
+Inv-loop src costs colors s n lambda head bound map₀ flags₀ orders codes marks cap skips cost₀ askings₀ ctx₀ l₀ map flags cost askings ctx l =
     let walk : Walk = record { map = map; flags = flags; ctx = ctx; cost = cost } in
     (restOf src costs colors n lambda s head bound (s .lines - l) l walk ≡ mapOf src costs colors n lambda s head bound map₀ flags₀)
     × (length map ≡ length map₀) × (length flags ≡ length flags₀) × Below map n × (ctx ≤ 3) × (l ≤ s .lines)
@@ -27,7 +28,7 @@ Inv-loop src costs colors s n lambda head bound map₀ flags₀ cost₀ askings�
     × (askings .first ≡ 0) × (askings .later ≡ l - 1)
 
 abbrev μ-loop : tie.MeasureT-loop
-μ-loop src costs colors s n lambda head bound map₀ flags₀ cost₀ askings₀ ctx₀ l₀ map flags cost askings ctx l = s .lines - l
+μ-loop src costs colors s n lambda head bound map₀ flags₀ orders codes marks cap skips cost₀ askings₀ ctx₀ l₀ map flags cost askings ctx l = s .lines - l
 
 -- after the costs were added, one line more
 module _ (c : tie.After-plus Inv-loop μ-loop) where
@@ -114,7 +115,11 @@ ask-requires c κs =
     let S = c .before .before .before .before .before .before .before .before in
     let l = c .before .before .before .loop in
     let on = c .before .if1 .taken in (
-      cell-inside (S .pre .0 .0) (omega (arith, S .pre .0 .1, l .inv .1)) (l .l) 0 on (S .pre .0 .0 .some),
+      (
+        cell-inside (S .pre .0 .0) (omega (arith, S .pre .0 .1, l .inv .1)) (l .l) 0 on (S .pre .0 .0 .some),
+        below-8 (l .map) (S .args .n) (l .inv .3) (S .pre .1 .1),
+        S .pre .1 .5 .code,
+      ),
       (omega (arith, l .inv .7), omega (arith, l .inv .8, on, S .pre .0 .0 .few)),
     )
 
@@ -124,7 +129,7 @@ best-by-requires c κs =
     let l = c .before .before .before .before .before .before .before .loop in
     let p : length (now (S .args .src)) ≤ length (l .map) = omega (arith, S .pre .0 .1, l .inv .1) in (
       (S .pre .0 .0, p, c .before .before .before .before .before .if1 .taken, l .inv .4),
-      (S .pre .1 .0, S .pre .1 .1, S .pre .1 .2, l .inv .3, c .before .before .before .ask .ensures .0),
+      (S .pre .1 .0, S .pre .1 .1, S .pre .1 .2, l .inv .3, c .before .before .before .ask .ensures .0, S .pre .1 .5 .code),
     )
 
 choose-from-requires : tie.Need-choose-from-requires Inv-loop μ-loop
@@ -134,7 +139,7 @@ choose-from-requires c κs =
     let p : length (now (S .args .src)) ≤ length (l .map) = omega (arith, S .pre .0 .1, l .inv .1) in
     let q : length (l .map) ≤ 4096 = omega (arith, S .pre .0 .2, l .inv .1) in (
       (S .pre .0 .0, p, q, c .before .before .before .before .before .before .before .if1 .taken, l .inv .4),
-      (S .pre .1 .0, S .pre .1 .1, S .pre .1 .2, l .inv .3, S .pre .1 .4, c .before .best-by .ensures),
+      (S .pre .1 .0, S .pre .1 .1, S .pre .1 .2, l .inv .3, S .pre .1 .4, c .before .best-by .ensures, S .pre .1 .5, S .pre .1 .6),
     )
 
 slice-write-flags : tie.Need-slice-write-flags Inv-loop μ-loop
@@ -146,8 +151,8 @@ slice-write-flags c =
 plus-requires : tie.Need-plus-requires Inv-loop μ-loop
 plus-requires c κs = search needs
 
-add-t32 : tie.Need-add-t32 Inv-loop μ-loop
-add-t32 c =
+add-t37 : tie.Need-add-t37 Inv-loop μ-loop
+add-t37 c =
     let p = c .before .before .before in
     omega (arith, inside p .if1 .taken, start p .pre .0 .0 .few)
 
@@ -224,7 +229,7 @@ walk-spec =
     choose-from-requires
     slice-write-flags
     plus-requires
-    add-t32
+    add-t37
     same-length
     same-length-2
     returns
