@@ -11,14 +11,14 @@ use lib.ListN.{length, getD}
 use borrow.Author.Tests.{ltb-true, lt-ltb, le-ltb, le-leb, eq-eqb}
 use Rattle.lists.specs.Counted.{allIn}
 use Rattle.lists.proofs.Choice.{and-r}
 use Rattle.context.specs.Map.{cell}
-use Rattle.context.specs.Order.{choose, byThree, around, orderOf}
-use Rattle.context.specs.Context.{used, usable, contextOk, answered, refused, contextOf}
-use Rattle.context.specs.Parts.{neighbourAt, oneAt, threeAt}
-use Rattle.context.specs.declared.Context.{Context}
+use Rattle.context.specs.Order.{choose, byThree, around, orderOf, rankOf}
+use Rattle.color_ctx.specs.Context.{used, usable, contextOk, answered, refused, contextOf}
+use Rattle.color_ctx.specs.Parts.{neighbourAt, oneAt, threeAt}
+use Rattle.color_ctx.specs.declared.Context.{Context}
 use Rattle.context.specs.declared.Index.{Index}
-use Rattle.context.specs.declared.Neighbour.{Neighbour}
-use Rattle.context.specs.declared.Neighbour.the-variants.{Color, Nothing}
+use Rattle.color_ctx.specs.declared.Neighbour.{Neighbour}
+use Rattle.color_ctx.specs.declared.Neighbour.the-variants.{Color, Nothing}
 
 -- ---- what `neighbour_at` tells
 
@@ -49,10 +49,10 @@ module _ {r : Neighbour} (map : List ℕ) (n p : ℕ) (e : r ≡ neighbourAt map
 -- ---- one neighbour is as three equal ones, but for the context
 
 abbrev pub edge : Context → Context
-edge c = record { number = c .number; ctx = 0; order = c .order }
+edge c = record { number = c .number; ctx = 0; order = c .order; ranks = c .ranks }
 
 edge-answer : (v n : ℕ) → edge (answered (byThree v v v) n) ≡ answered (record { ctx = 0; firsts = v ∷ [] }) n
-unfolding answered byThree choose orderOf
+unfolding answered byThree choose orderOf rankOf
 edge-answer v n = rw (eq-eqb v v refl) refl
 
 edge-by : (b : Bool) (x y : Context) → edge x ≡ y

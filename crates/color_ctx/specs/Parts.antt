@@ -2,19 +2,13 @@
 use Prim.Native.Nat.{ℕ}
 use mathlib.Core.Bool.{cond}
 use mathlib.Core.List.{List, [], _∷_}
-use lib.ListN.{length, getD}
+use lib.ListN.{getD}
 use Rattle.lists.specs.Counted.{allIn}
-use Rattle.context.specs.Order.{Around, byThree}
-use Rattle.context.specs.Context.{usable, answered, refused}
-use Rattle.context.specs.declared.Context.{Context}
-use Rattle.context.specs.declared.Near.{Near}
-use Rattle.context.specs.declared.Neighbour.{Neighbour}
-use Rattle.context.specs.declared.Neighbour.the-variants.{Color, Nothing}
-
--- a context and the indices that come first, of which there are at most three
-abbrev pub held : Around → Near
-held a =
-    record { ctx = a .ctx; count = length (a .firsts); first = getD (a .firsts) 0 0; second = getD (a .firsts) 1 0; third = getD (a .firsts) 2 0 }
+use Rattle.context.specs.Order.{byThree}
+use Rattle.color_ctx.specs.Context.{usable, answered, refused}
+use Rattle.color_ctx.specs.declared.Context.{Context}
+use Rattle.color_ctx.specs.declared.Neighbour.{Neighbour}
+use Rattle.color_ctx.specs.declared.Neighbour.the-variants.{Color, Nothing}
 
 unfoldable pub neighbourAt : List ℕ → ℕ → ℕ → Neighbour
 neighbourAt map n p = cond (usable map n p) (Color (record { 0 = getD map p 0 })) Nothing

@@ -3,11 +3,8 @@
 use context::Index;
 use context::Rank;
 ghost use mathlib.Core.Path.{_≡_};
-ghost use mathlib.Core.Bool.{cond};
 ghost use Prim.Native.Nat.{_+_, _*_, _≤_, _<_, min};
-ghost use lib.Dec.{ltb};
 ghost use Rattle.context.specs.Order.{byThree};
-ghost use Rattle.rows.specs.Rows.{orderTable, codeTable, Fits, aroundRow};
 ghost use Rattle.color_ctx.specs.Context.{answered, refused, contextOf};
 ghost use Rattle.color_ctx.specs.Parts.{neighbourAt, oneAt, threeAt};
 
@@ -63,6 +60,30 @@ fn neighbour_at(map: &[u8], at: usize, n: u8) -> Neighbour
     Neighbour::Nothing
 }
 
+// The row of three neighbours, handed out: what it has below n, then zeros.
+fn answer(left: Index, top: Index, diag: Index, n: u8) -> Context
+    requires { ⌜ (left .0 < n) × (top .0 < n) × (diag .0 < n) × (n ≤ 8) ⌝ }
+    ensures { λ r. ⌜ r ≡ answered (byThree (left .0) (top .0) (diag .0)) n ⌝ }
+{
+    let orders = rows::orders();
+    let codes = rows::codes();
+    let row = rows::row_of(left, top, diag);
+    let mut order = [0u8; 8];
+    let mut ranks = [0u8; 8];
+    let mut i: u8 = 0;
+    while i < n {
+        order[i as usize] = rows::index_at(&orders, row, Rank(i)).0;
+        ranks[i as usize] = rows::rank_at(&codes, row, Index(i)).0;
+        i += 1;
+    }
+    Context {
+        number: 0,
+        ctx: rows::ctx_at(&codes, row),
+        order,
+        ranks,
+    }
+}
+
 // From the neighbours at three places.
 fn from_three(map: &[u8], left: usize, top: usize, diag: usize, n: u8) -> Context
     requires { ⌜ n ≤ 8 ⌝ }
@@ -87,10 +108,12 @@ fn from_one(map: &[u8], at: usize, n: u8) -> Context
 {
     let three = from_three(map, at, at, at, n);
     let order = three.order;
+    let ranks = three.ranks;
     Context {
         number: three.number,
         ctx: 0,
         order,
+        ranks,
     }
 }
 

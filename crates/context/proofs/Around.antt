@@ -1,13 +1,13 @@
--- What three neighbours give: each index once, each below n, one to three of them, and a context below 5. Assumes nothing.
+-- What three neighbours give: each index once, each below n, and a context below 5. Assumes nothing.
 use mathlib.Core.Path.{_≡_, refl, sym}
-use mathlib.Core.Bool.{Bool, true, false, _||_}
-use mathlib.Core.List.{List, [], _∷_, _++_}
-use Prim.Native.Nat.{ℕ, zero, suc, _+_, _-_, _*_, _≤_, _<_}
+use mathlib.Core.Bool.{Bool, true, false}
+use mathlib.Core.List.{List}
+use Prim.Native.Nat.{ℕ, zero, suc, _+_, _*_, _<_}
 use native.Mathlib.Nat.{suc-mul}
 use native.Mathlib.Omega.{arith}
 use lib.Dec.{eqb}
-use lib.ListN.{length, getD, replicate}
-use borrow.Author.Tests.{eqb-true, eqb-false, ne-eqb}
+use lib.ListN.{getD}
+use borrow.Author.Tests.{eqb-false, ne-eqb}
 use Rattle.lists.specs.Counted.{elem}
 use Rattle.context.specs.Map.{cell}
 use Rattle.context.specs.Order.{choose, byThree, around}
@@ -30,38 +30,6 @@ pub three-ok : (n l t d : ℕ) → l < n → t < n → d < n → FirstsOk (byThr
 unfolding byThree
 three-ok n l t d = choose-ok (eqb l t) (eqb l d) (eqb d t) n l t d refl refl refl
 
--- one of the three stands among those that come first, and no other index
-choose-elem : (b c e : Bool) (v l t d : ℕ) → eqb l t ≡ b → eqb l d ≡ c → eqb d t ≡ e
-    → elem v (choose b c e l t d .firsts) ≡ elem v (l ∷ t ∷ d ∷ [])
-unfolding choose elem
-choose-elem true true e v l t d p q r = rw (← eqb-true l t p, ← eqb-true l d q) (go (eqb v l))
-  where
-    go : (x : Bool) → x || false ≡ x || (x || (x || false))
-    go true = refl
-    go false = refl
-choose-elem true false e v l t d p q r = rw (← eqb-true l t p) (go (eqb v l) (eqb v d))
-  where
-    go : (x y : Bool) → x || (y || false) ≡ x || (x || (y || false))
-    go true y = refl
-    go false y = refl
-choose-elem false true e v l t d p q r = rw (← eqb-true l d q) (go (eqb v l) (eqb v t))
-  where
-    go : (x y : Bool) → x || (y || false) ≡ x || (y || (x || false))
-    go true y = refl
-    go false y = refl
-choose-elem false false true v l t d p q r = rw (eqb-true d t r) (go (eqb v l) (eqb v t))
-  where
-    go : (x y : Bool) → y || (x || false) ≡ x || (y || (y || false))
-    go true true = refl
-    go true false = refl
-    go false true = refl
-    go false false = refl
-choose-elem false false false v l t d p q r = refl
-
-pub three-elem : (v l t d : ℕ) → elem v (byThree l t d .firsts) ≡ elem v (l ∷ t ∷ d ∷ [])
-unfolding byThree
-three-elem v l t d = choose-elem (eqb l t) (eqb l d) (eqb d t) v l t d refl refl refl
-
 choose-ctx : (b c e : Bool) (l t d : ℕ) → choose b c e l t d .ctx < 5
 unfolding choose
 choose-ctx true true e l t d = omega arith
@@ -69,28 +37,6 @@ choose-ctx true false e l t d = omega arith
 choose-ctx false true e l t d = omega arith
 choose-ctx false false true l t d = omega arith
 choose-ctx false false false l t d = omega arith
-
--- one to three come first
-choose-count : (b c e : Bool) (l t d : ℕ) → (1 ≤ length (choose b c e l t d .firsts)) × (length (choose b c e l t d .firsts) ≤ 3)
-unfolding choose
-choose-count true true e l t d = (omega arith, omega arith)
-choose-count true false e l t d = (omega arith, omega arith)
-choose-count false true e l t d = (omega arith, omega arith)
-choose-count false false true l t d = (omega arith, omega arith)
-choose-count false false false l t d = (omega arith, omega arith)
-
-pub three-count : (l t d : ℕ) → (1 ≤ length (byThree l t d .firsts)) × (length (byThree l t d .firsts) ≤ 3)
-unfolding byThree
-three-count l t d = choose-count (eqb l t) (eqb l d) (eqb d t) l t d
-
--- so three places hold them all, and zeros after them
-pub in-three : (xs ys : List ℕ) → length xs ≤ 3
-    → getD xs 0 0 ∷ getD xs 1 0 ∷ getD xs 2 0 ∷ ys ≡ xs ++ (replicate (3 - length xs) 0 ++ ys)
-in-three [] ys h = refl
-in-three (x ∷ []) ys h = refl
-in-three (x ∷ y ∷ []) ys h = refl
-in-three (x ∷ y ∷ z ∷ []) ys h = refl
-in-three (x ∷ y ∷ z ∷ v ∷ xs) ys h = absurd (omega arith)
 
 pub three-ctx : (l t d : ℕ) → byThree l t d .ctx < 5
 unfolding byThree

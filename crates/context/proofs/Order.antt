@@ -1,7 +1,7 @@
 -- The order at a cell holds each index below n once; rank and place undo each other. Assumes nothing.
 use mathlib.Core.Path.{_≡_, refl, sym, ap, _∙_}
 use mathlib.Core.Bool.{Bool, true, false, not, _||_}
-use mathlib.Core.List.{_++_, append-assoc, append-nil}
+use mathlib.Core.List.{_++_, append-assoc}
 use Prim.Native.Nat.{ℕ, suc, _<_}
 use native.Mathlib.Omega.{arith}
 use lib.Dec.{ltb}
@@ -11,7 +11,7 @@ use Rattle.lists.specs.Counted.{elem}
 use Rattle.lists.proofs.Choice.{and-l, and-false}
 use Rattle.context.specs.Order.{Around, others, orderOf, rankOf}
 use Rattle.lists.proofs.Elem.{elem-append, elem-at, Distinct, distinct-append, Under, elem-under}
-use Rattle.context.proofs.Others.{place-at, place-of, added, elem-others, others-distinct, whole-length, others-less}
+use Rattle.context.proofs.Others.{place-at, place-of, added, elem-others, others-distinct, whole-length}
 
 -- what holds of the indices that come first: each once, and each below n
 pub record FirstsOk (a : Around) (n : ℕ) : Type 0 where
@@ -23,10 +23,6 @@ unfolding orderOf
 order-has a n i h =
     let go : (b : Bool) → b || not b ≡ true = elim [ true ↦ refl | false ↦ refl ] in
     elem-append i (a .firsts) (others (a .firsts) n) ∙ rw (elem-others (a .firsts) n i, lt-ltb i n h) (go (elem i (a .firsts)))
-
-pub order-none : (a : Around) → orderOf a 0 ≡ a .firsts
-unfolding orderOf others
-order-none a = append-nil (a .firsts)
 
 -- one index more: at the end, unless it came first
 pub order-next : (a : Around) (n : ℕ) → orderOf a (suc n) ≡ orderOf a n ++ added (elem n (a .firsts)) n
@@ -46,13 +42,6 @@ module _ (a : Around) (n : ℕ) (ok : FirstsOk a n) where
   pub order-length : length (orderOf a n) ≡ n
   unfolding orderOf
   order-length = length-append (a .firsts) (others (a .firsts) n) ∙ whole-length (a .firsts) n (ok .distinct) (ok .under)
-
-  -- there is a place for an index that does not come first
-  pub order-room : (v : ℕ) → v < n → elem v (a .firsts) ≡ false → length (orderOf a v) < n
-  unfolding orderOf
-  order-room v h e =
-      let whole = whole-length (a .firsts) n (ok .distinct) (ok .under) in
-      omega (arith, length-append (a .firsts) (others (a .firsts) v), others-less (a .firsts) n v h e, whole)
 
   pub order-distinct : Distinct (orderOf a n)
   unfolding orderOf

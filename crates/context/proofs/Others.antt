@@ -2,9 +2,7 @@
 use mathlib.Core.Path.{_≡_, refl, sym, ap, _∙_}
 use mathlib.Core.Bool.{Bool, true, false, cond, not, _&&_, _||_, true≢false, false≢true}
 use mathlib.Core.List.{List, [], _∷_, _++_}
-use mathlib.Core.Logic.{⊎-elim}
 use Prim.Native.Nat.{ℕ, zero, suc, _+_, _<_}
-use native.Mathlib.Nat.{eq-or-lt-of-le, le-of-suc-le-suc}
 use native.Mathlib.Omega.{arith}
 use lib.Dec.{eqb, ltb}
 use lib.ListN.{length, getD, length-append}
@@ -114,11 +112,3 @@ pub whole-length : (xs : List ℕ) (n : ℕ) → Distinct xs → Under n xs → 
 whole-length [] n d u = omega (arith, all-length n)
 whole-length (x ∷ xs) n d u =
     omega (arith, rw (lt-ltb x n (u .0)) at (fewer x xs n (d .0)), whole-length xs n (d .1) (u .1))
-
-pub others-less : (xs : List ℕ) (n v : ℕ) → v < n → elem v xs ≡ false → length (others xs v) < length (others xs n)
-unfolding others
-others-less xs zero v h e = absurd (omega arith)
-others-less xs (suc n) v h e =
-    ⊎-elim (λ p. rw (p, rw p at e) (omega (arith, length-append (others xs n) (n ∷ []))))
-    (λ l. omega (arith, others-less xs n v l e, length-append (others xs n) (added (elem n xs) n)))
-    (eq-or-lt-of-le (le-of-suc-le-suc h))

@@ -6,12 +6,12 @@ use lib.ListN.{length}
 use denote.Ref.{now}
 use borrow.Author.Tests.{lt-leb, le-ltb}
 use borrow.Author.Needs.{needs}
-use Rattle.context.specs.Parts.{threeAt}
-use Rattle.context.specs.Context.{contextOk, contextOf}
+use Rattle.color_ctx.specs.Parts.{threeAt}
+use Rattle.color_ctx.specs.Context.{contextOk, contextOf}
 use Rattle.lists.proofs.Choice.{and-false}
-use Rattle.context.proofs.Parts.{one-min, three-past, at-top, at-side, at-inside}
-use Rattle.context.proofs.color_ctx.Statement.{statement}
-use Rattle.context.proofs.color_ctx.Tie as tie
+use Rattle.color_ctx.proofs.Parts.{one-min, three-past, at-top, at-side, at-inside}
+use Rattle.color_ctx.proofs.color_ctx.Statement.{statement}
+use Rattle.color_ctx.proofs.color_ctx.Tie as tie
 
 -- the place of the left neighbour
 abbrev left : tie.Start → ℕ

@@ -3,10 +3,10 @@ use Prim.Native.Nat.{ℕ}
 use denote.Ref.{now}
 use borrow.Author.Needs.{needs}
 use Rattle.lists.specs.Counted.{allIn}
-use Rattle.context.specs.Parts.{threeAt}
-use Rattle.context.proofs.Parts.{Known, color-is, nothing-is}
-use Rattle.context.proofs.from_three.Statement.{statement}
-use Rattle.context.proofs.from_three.Tie as tie
+use Rattle.color_ctx.specs.Parts.{threeAt}
+use Rattle.color_ctx.proofs.Parts.{Known, color-is, nothing-is}
+use Rattle.color_ctx.proofs.from_three.Statement.{statement}
+use Rattle.color_ctx.proofs.from_three.Tie as tie
 
 abbrev KnownAt : tie.Start → ℕ → ℕ → Type 0
 KnownAt s p v = Known (now (s .args .map)) (s .args .n) p v

@@ -1,8 +1,8 @@
 use borrow.Author.Tests.{lt-ltb, le-ltb}
 use borrow.Author.Needs.{needs}
-use Rattle.context.specs.Parts.{neighbourAt}
-use Rattle.context.proofs.neighbour_at.Statement.{statement}
-use Rattle.context.proofs.neighbour_at.Tie as tie
+use Rattle.color_ctx.specs.Parts.{neighbourAt}
+use Rattle.color_ctx.proofs.neighbour_at.Statement.{statement}
+use Rattle.color_ctx.proofs.neighbour_at.Tie as tie
 
 shared-slice-read-v : tie.Need-shared-slice-read-v
 shared-slice-read-v c = search needs

@@ -1,8 +1,8 @@
 use native.Mathlib.Omega.{arith}
 use native.Mathlib.Nat.{le-div-iff-mul-le, div-lt-iff-lt-mul}
 use borrow.Author.Needs.{needs}
-use Rattle.context.proofs.place_of.Statement.{statement}
-use Rattle.context.proofs.place_of.Tie as tie
+use Rattle.color_ctx.proofs.place_of.Statement.{statement}
+use Rattle.color_ctx.proofs.place_of.Tie as tie
 
 div-if1 : tie.Need-div-if1
 div-if1 c = search needs
