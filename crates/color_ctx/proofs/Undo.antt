@@ -1,14 +1,14 @@
 -- Each answer's ranks and order undo each other; an answer of 18 holds zeros. Assumes nothing.
 use mathlib.Core.Path.{_≡_, refl, _∙_}
-use mathlib.Core.Bool.{Bool, true, false, cond, _&&_}
+use mathlib.Core.Bool.{Bool, true, false, cond}
 use mathlib.Core.List.{List, [], _∷_, _++_}
 use Prim.Native.Nat.{ℕ, zero, suc, _+_, _-_, _*_, _<_}
 use native.Mathlib.Omega.{arith}
 use lib.Dec.{ltb}
 use lib.ListN.{length, getD, replicate, List·getD-eq-default}
 use borrow.Author.Tests.{ltb-true}
-use Rattle.lists.specs.Counted.{within, allIn, elem}
-use Rattle.lists.proofs.Choice.{and-r}
+use Rattle.lists.specs.Counted.{allIn, elem}
+use Rattle.lists.proofs.Choice.{and-r, and-false}
 use Rattle.lists.proofs.Counted.{allIn-at, length-upTo}
 use Rattle.lists.proofs.Each.{each-at}
 use Rattle.lists.proofs.Zeros.{zeros-below}
@@ -65,7 +65,11 @@ module _ (map : List ℕ) (n : ℕ) where
 
   accepted : (s y x : ℕ) → contextOk map s y x n ≡ true → allIn (usable map n) (used s y x) ≡ true
   unfolding contextOk
-  accepted s y x = and-r (ltb 0 (y + x) && ltb x s && within 2 8 n) (allIn (usable map n) (used s y x))
+  accepted s y x e = go (allIn (usable map n) (used s y x)) refl
+    where
+      go : (b : Bool) → allIn (usable map n) (used s y x) ≡ b → b ≡ true
+      go true p = refl
+      go false p = simp (p, and-false) at e
 
   pub context-answers : (s y x : ℕ) → Answers n (contextOf map s y x n)
   unfolding contextOf answered

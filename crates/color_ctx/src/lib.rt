@@ -72,8 +72,10 @@ fn answer(left: Index, top: Index, diag: Index, n: u8) -> Context
     let mut ranks = [0u8; 8];
     let mut i: u8 = 0;
     while i < n {
-        order[i as usize] = rows::index_at(&orders, row, Rank(i)).0;
-        ranks[i as usize] = rows::rank_at(&codes, row, Index(i)).0;
+        let index = rows::index_at(&orders, row, Rank(i)).0;
+        let rank = rows::rank_at(&codes, row, Index(i)).0;
+        order[i as usize] = index;
+        ranks[i as usize] = rank;
         i += 1;
     }
     Context {

@@ -44,14 +44,14 @@ loop-holds c = (search needs, refl, refl)
 index-at-requires : tie.Need-index-at-requires Inv-loop μ-loop
 index-at-requires c κs = search needs
 
+rank-at-requires : tie.Need-rank-at-requires Inv-loop μ-loop
+rank-at-requires c κs = search needs
+
 cast-order : tie.Need-cast-order Inv-loop μ-loop
 cast-order c = search needs
 
 array-write-order : tie.Need-array-write-order Inv-loop μ-loop
 array-write-order c = search needs
-
-rank-at-requires : tie.Need-rank-at-requires Inv-loop μ-loop
-rank-at-requires c κs = search needs
 
 cast-ranks : tie.Need-cast-ranks Inv-loop μ-loop
 cast-ranks c = search needs
@@ -96,9 +96,9 @@ answer-spec =
     row-of-requires
     loop-holds
     index-at-requires
+    rank-at-requires
     cast-order
     array-write-order
-    rank-at-requires
     cast-ranks
     array-write-ranks
     add-i
