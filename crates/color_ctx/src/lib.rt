@@ -119,7 +119,7 @@ fn from_one(map: &[u8], at: usize, n: u8) -> Context
     }
 }
 
-// The context at row y and column x of a map, and the order of the n indices there.
+// The context at row y and column x of a map, with the order of the n indices there and their ranks.
 pub fn color_ctx(map: &[u8], stride: usize, y: usize, x: usize, n: usize) -> Context
     ensures { λ r. ⌜ r ≡ contextOf (now (map .entry)) stride y x n ⌝ }
 {

@@ -1,13 +1,13 @@
 // The front door: everything that is open to callers, each function for all arguments.
 use accept::Palette;
-use context::Context;
+use color_ctx::Context;
 use costs::Costs;
 use listing::Listed;
 use strip::Strip;
 ghost use mathlib.Core.Path.{_≡_};
 ghost use lib.ListN.{length};
 ghost use Rattle.counts.specs.Counts.{blockAllowed};
-ghost use Rattle.context.specs.Context.{contextOf};
+ghost use Rattle.color_ctx.specs.Context.{contextOf};
 ghost use Rattle.costs.specs.Costs.{MakesCosts};
 ghost use Rattle.accept.specs.Palette.{paletteOf};
 ghost use Rattle.listing.specs.Listing.{Lists, Predicts};
@@ -22,11 +22,11 @@ pub fn block_allowed(bw4: usize, bh4: usize) -> bool
     counts::block_allowed(bw4, bh4)
 }
 
-// The context at row y and column x of an index map, and the order of the n indices there.
+// The context at row y and column x of an index map, with the order of the n indices there and their ranks.
 pub fn color_ctx(map: &[u8], stride: usize, y: usize, x: usize, n: usize) -> Context
     ensures { λ r. ⌜ r ≡ contextOf (now (map .entry)) stride y x n ⌝ }
 {
-    context::color_ctx(map, stride, y, x, n)
+    color_ctx::color_ctx(map, stride, y, x, n)
 }
 
 // Makes the 301 costs from a tile's adapted rows, or from the default rows where none are lent.

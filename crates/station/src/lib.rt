@@ -2,12 +2,14 @@
 // its number goes to an array, which holds zeros after a refusal.
 use accept::Palette;
 ghost use mathlib.Core.Path.{_≡_};
-ghost use mathlib.Core.List.{_∷_};
+ghost use mathlib.Core.List.{_∷_, _++_};
+ghost use Rattle.lists.specs.Written.{written};
 ghost use Rattle.counts.specs.Counts.{blockAllowed};
-ghost use Rattle.context.specs.Context.{contextOf};
+ghost use Rattle.color_ctx.specs.Context.{contextOf};
 ghost use Rattle.costs.specs.Costs.{costsNumber, costsOf};
 ghost use Rattle.accept.specs.Palette.{paletteOf};
 ghost use Rattle.listing.specs.Listing.{Predicts};
+ghost use Rattle.station.specs.Context.{contextWords};
 ghost use Rattle.station.specs.Listed.{ListsTo};
 ghost use Rattle.reading.specs.Reading.{reading};
 ghost use Rattle.station.specs.Searched.{fieldsOf, SearchesTo};
@@ -29,18 +31,27 @@ fn wide(index: u8) -> u32
     index as u32
 }
 
-// A context and its order in one array.
-fn in_words(ctx: u32, order: [u8; 8]) -> [u32; 9]
-    ensures { λ r. ⌜ r ≡ ctx ∷ order ⌝ }
+// Eight places of an array filled.
+fn put(words: [u32; 17], at: usize, bytes: [u8; 8]) -> [u32; 17]
+    requires { ⌜ at ≤ 9 ⌝ }
+    ensures { λ r. ⌜ r ≡ written words at bytes ⌝ }
 {
-    let mut words = [0u32; 9];
-    words[0] = ctx;
+    let mut out = words;
     let mut i: usize = 0;
     while i < 8 {
-        words[i + 1] = wide(order[i]);
+        out[at + i] = wide(bytes[i]);
         i += 1;
     }
-    words
+    out
+}
+
+// A context, its order and its ranks in one array.
+fn in_words(ctx: u32, order: [u8; 8], ranks: [u8; 8]) -> [u32; 17]
+    ensures { λ r. ⌜ r ≡ ctx ∷ order ++ ranks ⌝ }
+{
+    let mut words = [0u32; 17];
+    words[0] = ctx;
+    put(put(words, 1, order), 9, ranks)
 }
 
 #[no_mangle]
@@ -50,15 +61,15 @@ pub extern "C" fn palette_context(
     y: usize,
     x: usize,
     n: usize,
-    context: &mut [u32; 9],
+    context: &mut [u32; 17],
 ) -> u32
     ensures { λ r. ⌜ r ≡ contextOf (now (map .entry)) stride y x n .number ⌝ }
-    ensures { λ r. ⌜ now (context .exit) ≡ contextOf (now (map .entry)) stride y x n .ctx
-        ∷ contextOf (now (map .entry)) stride y x n .order ⌝ }
+    ensures { λ r. ⌜ now (context .exit) ≡ contextWords (contextOf (now (map .entry)) stride y x n) ⌝ }
 {
     let found = palette::color_ctx(map, stride, y, x, n);
     let order = found.order;
-    *context = in_words(found.ctx as u32, order);
+    let ranks = found.ranks;
+    *context = in_words(found.ctx as u32, order, ranks);
     found.number
 }
 
