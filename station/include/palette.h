@@ -91,11 +91,12 @@ bool palette_block_allowed(size_t bw4, size_t bh4);
  * The context of the cell in row y and column x of a map whose rows are `stride` apart, with n
  * colours. `map` holds `cells` indices; only the neighbours left, above and between are read.
  *
- * Returns 0 or 18. Writes `context`: the context (0 to 4), then the indices by rank, n of them,
- * then zeros.
+ * Returns 0 or 18. Writes `context`: the context (0 to 4), then eight places with the index at
+ * each rank, then eight with the rank of each index. For ranks and indices below n these undo each
+ * other; from n upward the places hold 0.
  */
 uint32_t palette_context(const uint8_t *map, size_t cells, size_t stride, size_t y, size_t x,
-                         size_t n, uint32_t context[9]);
+                         size_t n, uint32_t context[17]);
 
 /*
  * Makes the 301 costs that palette_search takes, from a tile's adapted rows: `numbers` of them in

@@ -63,7 +63,7 @@ extern "C" {
         y: usize,
         x: usize,
         n: usize,
-        context: *mut [u32; 9],
+        context: *mut [u32; 17],
     ) -> u32;
 
     fn palette_costs(adapted: *const u16, numbers: usize, costs: *mut [f32; 301]) -> u32;
@@ -156,14 +156,14 @@ pub(crate) fn block_allowed(bw4: usize, bh4: usize) -> bool {
     in_default(|| unsafe { palette_block_allowed(bw4, bh4) })
 }
 
-/// The number; `answer` becomes the context and the order's eight places.
+/// The number; `answer` becomes the context, the order's eight places and the ranks' eight.
 pub(crate) fn context(
     map: &[u8],
     stride: usize,
     y: usize,
     x: usize,
     n: usize,
-    answer: &mut [u32; 9],
+    answer: &mut [u32; 17],
 ) -> u32 {
     // SAFETY: pointer and length are of one slice; `answer` is borrowed for this call alone.
     in_default(|| unsafe { palette_context(map.as_ptr(), map.len(), stride, y, x, n, answer) })

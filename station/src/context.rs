@@ -1,10 +1,12 @@
 //! The context of a cell.
 
+use std::array;
+
 use crate::archive;
 use crate::limits::MAX_COLORS;
 use crate::Refusal;
 
-/// The context of a cell and the order of the indices there.
+/// The context of a cell, with the order of the indices there and their ranks.
 ///
 /// ```
 /// use palette_station::context;
@@ -13,6 +15,7 @@ use crate::Refusal;
 /// let found = context(&[0, 1, 1, 0], 2, 1, 1, 3)?;
 /// assert_eq!(found.value(), 3);
 /// assert_eq!(found.order(), [1, 0, 2]);
+/// assert_eq!(found.rank_of(0), Some(1));
 /// # Ok::<(), palette_station::Refusal>(())
 /// ```
 #[derive(Clone, Copy, Debug, PartialEq, Eq, Hash)]
@@ -20,6 +23,7 @@ pub struct Context {
     value: u8,
     n: usize,
     order: [u8; MAX_COLORS],
+    ranks: [u8; MAX_COLORS],
 }
 
 impl Context {
@@ -45,17 +49,33 @@ impl Context {
         &self.order[..self.n]
     }
 
-    /// The rank of an index, if it is below n.
+    /// The rank of an index, if it is below n: what a lister sends for it.
     ///
     /// ```
     /// let found = palette_station::context(&[2], 4, 0, 1, 3)?;
     /// assert_eq!(found.rank_of(2), Some(0));
+    /// assert_eq!(found.rank_of(1), Some(2));
     /// assert_eq!(found.rank_of(3), None);
     /// # Ok::<(), palette_station::Refusal>(())
     /// ```
     pub fn rank_of(&self, index: u8) -> Option<u8> {
-        let rank = self.order().iter().position(|&there| there == index)?;
-        Some(rank as u8)
+        self.ranks[..self.n].get(usize::from(index)).copied()
+    }
+
+    /// The index at a rank, if it is below n: what a reader gets back. It undoes `rank_of`.
+    ///
+    /// ```
+    /// let found = palette_station::context(&[2], 4, 0, 1, 3)?;
+    /// assert_eq!(found.index_at(0), Some(2));
+    /// assert_eq!(found.index_at(3), None);
+    /// for index in 0..3 {
+    ///     let rank = found.rank_of(index).unwrap();
+    ///     assert_eq!(found.index_at(rank), Some(index));
+    /// }
+    /// # Ok::<(), palette_station::Refusal>(())
+    /// ```
+    pub fn index_at(&self, rank: u8) -> Option<u8> {
+        self.order().get(usize::from(rank)).copied()
     }
 }
 
@@ -79,8 +99,13 @@ pub fn context(
     x: usize,
     n: usize,
 ) -> Result<Context, Refusal> {
-    let mut words = [0; 9];
+    let mut words = [0; 1 + 2 * MAX_COLORS];
     Refusal::check(archive::context(map, stride, y, x, n, &mut words))?;
-    let [value, order @ ..] = words.map(|word| word as u8);
-    Ok(Context { value, n, order })
+    let [value, places @ ..] = words.map(|word| word as u8);
+    Ok(Context {
+        value,
+        n,
+        order: array::from_fn(|rank| places[rank]),
+        ranks: array::from_fn(|index| places[MAX_COLORS + index]),
+    })
 }

@@ -290,11 +290,30 @@ fn a_refused_list_is_all_zero() {
 
 #[test]
 fn a_refused_context_is_all_zero() {
-    let mut answer = [9; 9];
-    assert_eq!(super::context(&[1, 1, 1], 2, 1, 1, 2, &mut answer), 0);
-    assert_eq!(answer, [4, 1, 0, 0, 0, 0, 0, 0, 0]);
-    assert_eq!(super::context(&[1, 1, 1], 2, 0, 0, 2, &mut answer), 18);
-    assert_eq!(answer, [0; 9]);
+    let mut answer = [9; 17];
+    assert_eq!(super::context(&[0, 2, 1], 2, 1, 1, 4, &mut answer), 0);
+    assert_eq!(answer, [1, 1, 2, 0, 3, 0, 0, 0, 0, 2, 0, 1, 3, 0, 0, 0, 0]);
+    assert_eq!(super::context(&[0, 2, 1], 2, 0, 0, 4, &mut answer), 18);
+    assert_eq!(answer, [0; 17]);
+}
+
+/// All three neighbours of all n: places from n upward are 0, and where one is not below n all are.
+#[test]
+fn places_from_n_upward_are_zero() {
+    for n in 2..=8 {
+        for key in 0..9 * 9 * 9 {
+            let map = [key / 81, key / 9 % 9, key % 9];
+            let mut answer = [9; 17];
+            let number = super::context(&map.map(|v| v as u8), 2, 1, 1, n, &mut answer);
+            if map.iter().all(|&v| v < n) {
+                assert_eq!(number, 0);
+                assert!(answer[1 + n..9].iter().all(|&v| v == 0), "{map:?} {n}");
+                assert!(answer[9 + n..].iter().all(|&v| v == 0), "{map:?} {n}");
+            } else {
+                assert_eq!((number, answer), (18, [0; 17]), "{map:?} {n}");
+            }
+        }
+    }
 }
 
 /// A table whose rows all begin at 7 and fall by 1.

@@ -43,13 +43,15 @@ static void block_allowed(void) {
 
 static void context(void) {
     const uint8_t map[4] = {0, 2, 1, 0};
-    const uint32_t due[9] = {1, 1, 2, 0, 3, 0, 0, 0, 0};
-    uint32_t answer[9];
-    fill(answer, sizeof answer);
+    const uint32_t due[17] = {1, 1, 2, 0, 3, 0, 0, 0, 0, 2, 0, 1, 3, 0, 0, 0, 0};
+    uint32_t room[19], *answer = room + 1;
+    fill(room, sizeof room);
     CHECK(palette_context(map, 4, 2, 1, 1, 4, answer) == PALETTE_ACCEPTED);
     CHECK(memcmp(answer, due, sizeof due) == 0);
+    for (int i = 0; i < 4; i++) CHECK(answer[1 + answer[9 + i]] == (uint32_t)i);
     CHECK(palette_context(map, 4, 2, 0, 0, 4, answer) == PALETTE_NO_CONTEXT);
-    CHECK(zeros(answer, sizeof answer));
+    CHECK(zeros(answer, sizeof due));
+    CHECK(filled(room, sizeof *room) && filled(answer + 17, sizeof *room));
 }
 
 /* Each row begins at 28672 and falls by 4096, so each symbol but its last costs 3. */
