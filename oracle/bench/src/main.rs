@@ -1,102 +1,74 @@
 //! Times our search, listing and reading beside the original's search on three drawn sheets; or
-//! our strips beside our separate searches.
+//! our strips beside our separate searches; or two archives beside each other.
 
+mod against;
+mod archive;
 mod batch;
+mod options;
 mod plot;
 mod rounds;
 mod strips;
 mod table;
 
+use against::Against;
+use archive::Archive;
 use batch::{due, read_ours, search_ours, Prices, Room};
+use options::{Options, What};
 use palette_oracle::generate::adapted::lent_table;
 use palette_oracle::generate::costs::logarithms;
-use palette_oracle::generate::sheets::{corners, sheets, Cut, Sheet};
+use palette_oracle::generate::sheets::{corners, Cut, Sheet};
 use palette_station::{list, Costs, Palette};
 use plot::{chart, Bar};
 use rounds::{time, Timed};
 use std::process::ExitCode;
 use table::{print_head, print_line, Outcome};
 
-const USAGE: &str = "usage: bench [strips] [--part N] [--passes N] [--plot FILE]";
-const SIDES: [usize; 3] = [64, 32, 16];
-const LAMBDAS: [f32; 3] = [20.0, 60.0, 200.0];
-const PASSES: usize = 5;
-
 /// Blocks that are timed together: enough for the clock, and few enough that ours and the
 /// original follow each other closely and meet the same disturbances.
 const BATCH: usize = 8;
 
-struct Options {
-    /// Strips beside separate searches.
-    strips: bool,
-    /// Only each so many-th block, or strip.
-    part: usize,
-    passes: usize,
-    /// Where the chart goes.
-    plot: Option<String>,
-}
-
 fn main() -> ExitCode {
-    let options = match read_options() {
-        Ok(options) => options,
+    match Options::read().and_then(|options| run(&options)) {
+        Ok(0) => ExitCode::SUCCESS,
+        Ok(_) => ExitCode::FAILURE,
         Err(message) => {
             eprintln!("{message}");
-            return ExitCode::FAILURE;
+            ExitCode::FAILURE
         }
-    };
-    let (differences, bars) = if options.strips {
-        (strips::run(options.part, options.passes), Vec::new())
-    } else {
-        run(&options)
+    }
+}
+
+/// The count of differences.
+fn run(options: &Options) -> Result<usize, String> {
+    let differences = match &options.what {
+        What::Ours => run_ours(options)?,
+        What::Strips => strips::run(options.part, options.passes),
+        What::Against(old, new) => {
+            let archives = [&Archive::load(old)?, &Archive::load(new)?];
+            against::run(&Against { archives, options })
+        }
     };
     println!("differences {differences}");
+    Ok(differences)
+}
+
+fn run_ours(options: &Options) -> Result<usize, String> {
+    let (differences, bars) = time_ours(options);
     if let Some(path) = &options.plot {
-        if let Err(error) = std::fs::write(path, chart(&bars)) {
-            eprintln!("{path}: {error}");
-            return ExitCode::FAILURE;
-        }
+        std::fs::write(path, chart(&bars)).map_err(|error| format!("{path}: {error}"))?;
     }
-    if differences == 0 {
-        ExitCode::SUCCESS
-    } else {
-        ExitCode::FAILURE
-    }
+    Ok(differences)
 }
 
-fn read_options() -> Result<Options, String> {
-    let (mut part, mut passes, mut plot) = (1, PASSES, None);
-    let mut arguments = std::env::args().skip(1).peekable();
-    let strips = arguments.next_if(|name| name == "strips").is_some();
-    while let Some(name) = arguments.next() {
-        let text = arguments.next();
-        if let ("--plot", false, Some(path)) = (name.as_str(), strips, &text) {
-            plot = Some(path.clone());
-            continue;
-        }
-        let value = text.and_then(|text| text.parse().ok());
-        match (name.as_str(), value) {
-            ("--part", Some(value @ 1..)) => part = value,
-            ("--passes", Some(value @ 1..)) => passes = value,
-            _ => return Err(USAGE.to_string()),
-        }
-    }
-    Ok(Options {
-        strips,
-        part,
-        passes,
-        plot,
-    })
-}
-
-fn run(options: &Options) -> (usize, Vec<Bar>) {
+fn time_ours(options: &Options) -> (usize, Vec<Bar>) {
     let costs = Costs::from_table(*logarithms());
     let (part, passes) = (options.part, options.passes);
     println!("each {part}. block, the least of {passes} passes");
     print_head();
     let (mut differences, mut bars) = (0, Vec::new());
-    for sheet in sheets() {
-        for side in SIDES {
-            for lambda in LAMBDAS {
+    for sheet in options.sheets() {
+        for side in options.sides() {
+            for lambda in options.lambdas() {
                 let outcome = measure(&sheet, side, lambda, &costs, options);
                 print_line(sheet.name, side, lambda, &outcome);
                 differences += outcome.differences;
