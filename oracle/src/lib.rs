@@ -20,6 +20,7 @@ pub mod made_costs;
 pub mod map_searches;
 mod original;
 mod places;
+pub mod ranks;
 pub mod reading;
 pub mod replay;
 pub mod replay_blocks;

@@ -1,4 +1,4 @@
-//! Cells to ask the context of, all accepted.
+//! Cells to ask the context of: drawn ones, and all of small size.
 
 use super::random::{Beside, Random};
 use crate::check::neighbours;
@@ -122,4 +122,92 @@ fn map(random: &mut Random, corner: &Corner) -> Vec<u8> {
         map[place] = index as u8;
     }
     map
+}
+
+/// Values of a neighbour: all indices, and others, with some that a cut would make an index.
+const VALUES: [u8; 16] = [0, 1, 2, 3, 4, 5, 6, 7, 8, 9, 15, 16, 64, 127, 128, 255];
+
+/// n that are allowed and n that are not, with some that a cut would make right.
+const COUNTS: [usize; 15] = [2, 3, 4, 5, 6, 7, 8, 0, 1, 9, 10, 16, 256, 258, usize::MAX];
+
+/// Stride, row and column; at the last four there is no context.
+const PLACES: [(usize, usize, usize); 20] = [
+    (2, 1, 1),
+    (3, 1, 1),
+    (3, 2, 2),
+    (4, 1, 2),
+    (8, 2, 7),
+    (64, 1, 33),
+    (65, 1, 64),
+    (2, 0, 1),
+    (5, 0, 1),
+    (5, 0, 3),
+    (64, 0, 63),
+    (1, 1, 0),
+    (1, 3, 0),
+    (2, 1, 0),
+    (5, 2, 0),
+    (64, 2, 0),
+    (5, 0, 0),
+    (3, 0, 3),
+    (5, 2, 5),
+    (0, 1, 0),
+];
+
+/// What a cell holds that is no neighbour.
+const ELSEWHERE: u8 = 254;
+
+/// How many there are of `every_corner`.
+pub const EVERY_CORNER: u64 = (VALUES.len().pow(3) * COUNTS.len() * PLACES.len() * 2) as u64;
+
+/// Each left, top and diagonal of the values with each n at each place, in a map that ends at the
+/// last neighbour and in one that goes on.
+pub fn every_corner(index: u64) -> Corner {
+    let mut rest = index as usize;
+    let mut digit = |of: usize| {
+        let digit = rest % of;
+        rest /= of;
+        digit
+    };
+    let [left, top, diagonal] = [0; 3].map(|_| VALUES[digit(VALUES.len())]);
+    let n = COUNTS[digit(COUNTS.len())];
+    let (stride, y, x) = PLACES[digit(PLACES.len())];
+    let mut corner = Corner {
+        map: vec![ELSEWHERE; (y + 2) * stride],
+        stride,
+        y,
+        x,
+        n,
+    };
+    set_neighbours(&mut corner, left, top, diagonal);
+    if digit(2) == 0 {
+        let last = neighbours(&corner).into_iter().max();
+        corner
+            .map
+            .truncate(last.map_or(0, |place| place as usize + 1));
+    }
+    corner
+}
+
+/// On an edge the values of neighbours that are not there go to where a wrong reading would look,
+/// if the map has that place. A neighbour that is there is set last.
+fn set_neighbours(corner: &mut Corner, left: u8, top: u8, diagonal: u8) {
+    let cell = corner.y * corner.stride + corner.x;
+    let places = match corner.y {
+        0 => [
+            (Some(cell), top),
+            (Some(cell + corner.stride), diagonal),
+            (cell.checked_sub(1), left),
+        ],
+        _ => [
+            (cell.checked_sub(1), left),
+            (cell.checked_sub(corner.stride + 1), diagonal),
+            (cell.checked_sub(corner.stride), top),
+        ],
+    };
+    for (place, value) in places {
+        if let Some(there) = place.and_then(|place| corner.map.get_mut(place)) {
+            *there = value;
+        }
+    }
 }
