@@ -23,7 +23,7 @@ use std::time::Instant;
 const USAGE: &str =
     "usage: compare search|strips|full-strips|damaged-strips|lists|contexts|reads|damaged|costs\
      |made|texts|reports|environments SEED COUNT [THREADS]\n\
-     | long-reports SEED";
+     | long-reports SEED | every-context";
 
 /// A thread for each core of a small machine.
 const THREADS: u64 = 2;
@@ -46,6 +46,7 @@ fn run() -> Result<bool, String> {
     let arguments: Vec<String> = std::env::args().skip(1).collect();
     let arguments: Vec<&str> = arguments.iter().map(String::as_str).collect();
     let (command, seed, count, threads) = match arguments[..] {
+        ["every-context"] => return contexts::compare_every(THREADS),
         ["long-reports", seed] => return long_reports::compare(whole("seed", seed)?),
         [command, seed, count] => (command, seed, count, THREADS),
         [command, seed, count, threads] => (command, seed, count, whole("threads", threads)?),
