@@ -21,7 +21,7 @@ use std::process::ExitCode;
 use std::time::Instant;
 
 const USAGE: &str =
-    "usage: compare search|strips|full-strips|damaged-strips|lists|contexts|reads|damaged|costs\
+    "usage: compare search|sure|strips|full-strips|damaged-strips|lists|contexts|reads|damaged|costs\
      |made|texts|reports|environments SEED COUNT [THREADS]\n\
      | long-reports SEED | every-context";
 
@@ -60,6 +60,7 @@ fn run() -> Result<bool, String> {
     println!("{command}, seed {seed}");
     match command {
         "search" => searches::compare(run),
+        "sure" => searches::compare_sure(run),
         "strips" => strips::compare_any(run),
         "full-strips" => strips::compare_full(run),
         "damaged-strips" => strips::compare_damaged(run),

@@ -7,7 +7,10 @@ use palette_compare::clock::Clock;
 use palette_compare::due::{Due, Same};
 use palette_oracle::answers::run_original;
 use palette_oracle::check::search_number;
-use palette_oracle::generate::searches::{search_request, SearchKinds, SearchRequest};
+use palette_oracle::generate::searches::{
+    search_request, SearchDamage, SearchKinds, SearchRequest,
+};
+use palette_oracle::generate::sure::sure_request;
 use palette_oracle::{fill_costs, Palette};
 use palette_station::{search_into, Block, Costs, Refusal, COSTS};
 use std::time::Duration;
@@ -18,26 +21,50 @@ const CELL: u8 = 238;
 pub fn compare(run: Run) -> Result<bool, String> {
     drive(run, |index, tally| {
         let (request, kinds) = search_request(run.seed, index);
-        let number = search_number(&request.asked());
-        count_kinds(tally, &kinds, number);
+        count_kinds(tally, &kinds, search_number(&request.asked()));
         if let Some(kinds) = kinds.block {
             tally.kind("costs", kinds.costs.name());
         }
-        let same = match Costs::from_slice(&request.costs) {
-            Ok(costs) => same_search(&request, &costs, number, tally),
-            Err(refusal) => {
-                tally.kind("type", "costs refused");
-                same_refusal(&request, refusal, number)
-            }
-        };
-        tally.case(index, &same);
+        compare_request(index, &request, tally);
         Ok(())
     })
 }
 
+/// Blocks with cells at the edge of sureness.
+pub fn compare_sure(run: Run) -> Result<bool, String> {
+    drive(run, |index, tally| {
+        let (request, kinds, damages) = sure_request(run.seed, index);
+        count_number(tally, search_number(&request.asked()), &damages);
+        tally.kind("edge", kinds.edge.name());
+        tally.kind("cap", kinds.places.name());
+        tally.kind("others", kinds.others.name());
+        compare_request(index, &request, tally);
+        Ok(())
+    })
+}
+
+fn compare_request(index: u64, request: &SearchRequest, tally: &mut Tally) {
+    let number = search_number(&request.asked());
+    let same = match Costs::from_slice(&request.costs) {
+        Ok(costs) => same_search(request, &costs, number, tally),
+        Err(refusal) => {
+            tally.kind("type", "costs refused");
+            same_refusal(request, refusal, number)
+        }
+    };
+    tally.case(index, &same);
+}
+
+fn count_number(tally: &mut Tally, number: u32, damages: &[SearchDamage]) {
+    tally.kind("number", format!("{number:2}"));
+    for damage in damages {
+        tally.kind("damage", damage.name());
+    }
+}
+
 /// All kinds but that of the costs.
 pub fn count_kinds(tally: &mut Tally, kinds: &SearchKinds, number: u32) {
-    tally.kind("number", format!("{number:2}"));
+    count_number(tally, number, &kinds.damages);
     match kinds.block {
         Some(kinds) => {
             tally.kind("spacing", kinds.spacing.name());
@@ -46,9 +73,6 @@ pub fn count_kinds(tally: &mut Tally, kinds: &SearchKinds, number: u32) {
             tally.kind("lambda", kinds.lambda.name());
         }
         None => tally.kind("block", "close"),
-    }
-    for damage in &kinds.damages {
-        tally.kind("damage", damage.name());
     }
 }
 

@@ -39,4 +39,5 @@ pub mod searches;
 pub mod sheets;
 pub mod sides;
 pub mod strips;
+pub mod sure;
 pub mod texts;

@@ -26,6 +26,8 @@ pub enum Beside {
     Adapted = 57,
     /// Strips of blocks.
     Strip = 56,
+    /// Blocks at the edge of sureness.
+    Sure = 55,
 }
 
 impl Random {
