@@ -24,6 +24,7 @@ pub mod ranks;
 pub mod reading;
 pub mod replay;
 pub mod replay_blocks;
+pub mod replay_contexts;
 pub mod replay_costs;
 pub mod replay_reads;
 pub mod replay_strips;

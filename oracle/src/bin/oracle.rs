@@ -4,6 +4,7 @@ use palette_oracle::asking::{self, fresh, hatched, MOST_BLOCKS};
 use palette_oracle::generate::{blocks, caches, contexts, palettes};
 use palette_oracle::replay::{self, replayed};
 use palette_oracle::replay_blocks::{self, replayed_blocks};
+use palette_oracle::replay_contexts::{self, all_neighbours, replayed_corners};
 use palette_oracle::replay_costs::{self, replayed_tables, steps};
 use palette_oracle::replay_reads::{self, replayed_reads};
 use palette_oracle::replay_strips::{self, replayed_strips};
@@ -19,6 +20,7 @@ const USAGE: &str =
      | replay-input SEED COUNT | replay-output SEED COUNT\n\
      | replay-blocks-input SEED COUNT | replay-blocks-output SEED COUNT\n\
      | read-input SEED COUNT | read-output SEED COUNT\n\
+     | contexts-input SEED COUNT | contexts-output SEED COUNT\n\
      | costs-input SEED COUNT | costs-output SEED COUNT\n\
      | strips-input SEED COUNT | strips-output SEED COUNT\n\
      | report-input SEED COUNT | report-output SEED COUNT\n\
@@ -47,6 +49,10 @@ fn main() -> ExitCode {
         ["read-output", seed, count] => {
             write_each(seed, count, replayed_reads, output(replay_reads::line))
         }
+        ["contexts-input", seed, count] => {
+            write_each(seed, count, replayed_corners, input(replay_contexts::bytes))
+        }
+        ["contexts-output", seed, count] => write_contexts_output(seed, count),
         ["costs-input", seed, count] => {
             write_each(seed, count, replayed_tables, input(replay_costs::bytes))
         }
@@ -141,6 +147,11 @@ fn write_pieces(pieces: impl Iterator<Item = impl AsRef<[u8]>>) -> Result<(), St
         out.write_all(piece.as_ref()).map_err(|e| e.to_string())?;
     }
     out.flush().map_err(|e| e.to_string())
+}
+
+fn write_contexts_output(seed: &str, count: &str) -> Result<(), String> {
+    write_pieces([all_neighbours()].into_iter())?;
+    write_each(seed, count, replayed_corners, output(replay_contexts::line))
 }
 
 fn write_costs_output(seed: &str, count: &str) -> Result<(), String> {
