@@ -1,4 +1,4 @@
-pub mod Cells
+pub mod Keys
 pub mod Lines
 pub mod Remove
 pub mod Untaken

@@ -1,2 +1,3 @@
 pub mod Colors
 pub mod Map
+pub mod Keys

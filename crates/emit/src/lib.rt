@@ -3,19 +3,22 @@
 use context::Index;
 use context::Level;
 ghost use mathlib.Core.Path.{_≡_};
-ghost use mathlib.Core.Bool.{true};
+ghost use mathlib.Core.Bool.{true, false};
 ghost use mathlib.Core.List.{[], _∷_};
 ghost use Prim.Native.Nat.{ℕ, _+_, _-_, _*_, _/_, _%_, _≤_, _<_};
+ghost use lib.Dec.{eqb};
 ghost use lib.ListN.{length, take, getD};
 ghost use Rattle.lists.specs.Counted.{bit, ascending, upTo};
 ghost use Rattle.lists.specs.Written.{written};
 ghost use Rattle.context.specs.Map.{rowAt, colAt, linesOf, lengthOf};
 ghost use Rattle.context.specs.Order.{byThree};
-ghost use Rattle.context.specs.Ranks.{Coded, Recoded};
+ghost use Rattle.rows.specs.Rows.{rowOf, codeTable};
+ghost use Rattle.near.specs.Near.{Below};
 ghost use Rattle.literals.specs.Words.{word};
 ghost use Rattle.literals.specs.Literals.{levelsOk};
 ghost use Rattle.emit.specs.Colors.{remove, cacheWords, untaken, colorWords};
-ghost use Rattle.emit.specs.Map.{LinesInside, rankedWord, cellWord, lineWord, sentCells, lineWords, orientWords, mapWords};
+ghost use Rattle.emit.specs.Map.{LinesInside, cellWord, lineWord, sentCells, lineWords, orientWords, mapWords};
+ghost use Rattle.emit.specs.Keys.{keyOf, Inner, KeysAt, KeysIn, CodeWords, Coded};
 
 // The colours that no cache entry took: the first `count` places.
 pub struct Left {
@@ -112,52 +115,32 @@ fn index_at(map: &[u8], place: usize) -> Index
     Index(map[place])
 }
 
-// The word of a cell with one neighbour: context 0.
-fn edge_word(map: &[u8], n: usize, near: usize, place: usize) -> u32
-    requires { ⌜ (2 ≤ n) × (n ≤ 8) × (near < length (now map)) × (place < length (now map)) ⌝ }
-    requires { ⌜ ((i : ℕ) → i < length (now map) → getD (now map) i 0 < n) ⌝ }
-    ensures { λ r. ⌜ r ≡ rankedWord 5 (record { ctx = 0; firsts = getD (now (map .entry)) near 0 ∷ [] }) n
-        (getD (now (map .entry)) place 0) ⌝ }
+// Whether it is cell (0,0), which has no neighbour.
+fn is_corner(y: usize, x: usize) -> bool
+    ensures { λ r. ⌜ r ≡ eqb (y + x) 0 ⌝ }
 {
-    let index = index_at(map, place);
-    let rank = context::rank_by_one(index_at(map, near), index);
-    literals::call(5, ((n - 2) * 5) as u32, rank.0 as u32)
-}
-
-// The word of a cell by its code.
-fn coded_word(codes: &[u8], n: usize, place: usize) -> u32
-    requires { ⌜ (2 ≤ n) × (n ≤ 8) × (place < length (now codes)) × (getD (now codes) place 0 < 40) ⌝ }
-    ensures { λ r. ⌜ r ≡ word 5 ((n - 2) * 5 + getD (now (codes .entry)) place 0 / 8) (getD (now (codes .entry)) place 0 % 8) ⌝ }
-{
-    let code = codes[place];
-    let rank = context::rank_in(code);
-    literals::call(5, ((n - 2) * 5) as u32 + (code / 8) as u32, rank.0 as u32)
+    (y == 0) & (x == 0)
 }
 
 // The word of the cell at row y, column x.
-fn cell_word(map: &[u8], codes: &[u8], w: usize, n: usize, y: usize, x: usize) -> u32
-    requires { ⌜ (2 ≤ n) × (n ≤ 8) × (x < w) × (y * w + x < length (now map)) × (Coded (now map) w (now codes)) ⌝ }
+fn cell_word(map: &[u8], codes: &[u8; 4096], w: usize, n: usize, y: usize, x: usize) -> u32
+    requires { ⌜ (2 ≤ n) × (n ≤ 8) × (x < w) × (y * w + x < length (now map)) × (now codes ≡ codeTable) ⌝ }
     requires { ⌜ ((i : ℕ) → i < length (now map) → getD (now map) i 0 < n) ⌝ }
     ensures { λ r. ⌜ r ≡ cellWord 5 byThree n (now (map .entry)) w y x ⌝ }
 {
-    let place = y * w + x;
-    if 0 < y {
-        if 0 < x {
-            return coded_word(codes, n, place);
-        }
-        return edge_word(map, n, place - w, place);
+    let index = index_at(map, y * w + x);
+    if is_corner(y, x) {
+        return literals::call(2, n as u32, index.0 as u32);
     }
-    if 0 < x {
-        return edge_word(map, n, place - 1, place);
-    }
-    let i = index_at(map, place);
-    literals::call(2, n as u32, i.0 as u32)
+    let key = near::key_at(map, codes, w, y, x);
+    let rank = rows::rank_at(codes, key.row, index);
+    literals::call(5, ((n - 2) * 5 + key.ctx) as u32, rank.0 as u32)
 }
 
 // The word of place a of line l: lines are rows, or columns when transposed.
 fn line_word(
     map: &[u8],
-    codes: &[u8],
+    codes: &[u8; 4096],
     w: usize,
     n: usize,
     transposed: bool,
@@ -165,7 +148,7 @@ fn line_word(
     a: usize,
 ) -> u32
     requires { ⌜ (2 ≤ n) × (n ≤ 8) × (colAt transposed l a < w) × (rowAt transposed l a * w + colAt transposed l a < length (now map))
-        × (Coded (now map) w (now codes)) ⌝ }
+        × (now codes ≡ codeTable) ⌝ }
     requires { ⌜ ((i : ℕ) → i < length (now map) → getD (now map) i 0 < n) ⌝ }
     ensures { λ r. ⌜ r ≡ lineWord n transposed (now (map .entry)) w l a ⌝ }
 {
@@ -175,10 +158,10 @@ fn line_word(
     cell_word(map, codes, w, n, l, a)
 }
 
-// The words of the first `count` cells of line l.
+// The words of the first `count` cells of line l, cell by cell.
 fn emit_cells(
     map: &[u8],
-    codes: &[u8],
+    codes: &[u8; 4096],
     w: usize,
     n: usize,
     transposed: bool,
@@ -187,7 +170,7 @@ fn emit_cells(
     out: &mut [u32],
     at: usize,
 ) -> usize
-    requires { ⌜ (LinesInside (now map) w n transposed (l + 1) count) × (Coded (now map) w (now codes)) ⌝ }
+    requires { ⌜ (LinesInside (now map) w n transposed (l + 1) count) × (now codes ≡ codeTable) ⌝ }
     requires { ⌜ at + count ≤ length (now out) ⌝ }
     ensures { λ r. ⌜ r ≡ at + count ⌝ }
     ensures { λ r. ⌜ now (out .exit) ≡ written (now (out .entry)) at
@@ -200,6 +183,177 @@ fn emit_cells(
         a += 1;
     }
     pos
+}
+
+// The place of a cell's code in the table: its row's, and its index.
+fn key_of(left: Index, top: Index, diag: Index, index: Index) -> u16
+    requires { ⌜ (left .0 < 8) × (top .0 < 8) × (diag .0 < 8) × (index .0 < 8) ⌝ }
+    ensures { λ r. ⌜ r ≡ rowOf (left .0) (top .0) (diag .0) * 8 + index .0 ⌝ }
+{
+    (left.0 * 8 + top.0) as u16 * 64 + (diag.0 * 8 + index.0) as u16
+}
+
+// At place p of the map.
+fn key_in(map: &[u8], w: usize, p: usize) -> u16
+    requires { ⌜ (w < p) × (p < length (now map)) × Below (now map) 8 ⌝ }
+    ensures { λ r. ⌜ r ≡ keyOf (now (map .entry)) w p ⌝ }
+{
+    let above = p - w;
+    key_of(
+        index_at(map, p - 1),
+        index_at(map, above),
+        index_at(map, above - 1),
+        index_at(map, p),
+    )
+}
+
+// The keys of the cells at first + a * step, from place `from` to before `count`. Their loop is apart from that of the words,
+// so that it can be vector code.
+fn fill_keys(
+    map: &[u8],
+    w: usize,
+    first: usize,
+    step: usize,
+    from: usize,
+    count: usize,
+    keys: &mut [u16],
+)
+    requires { ⌜ (from ≤ 1) × (count ≤ length (now keys)) × Below (now map) 8 ⌝ }
+    requires { ⌜ Inner (length (now map)) w first step from count ⌝ }
+    ensures { λ _. ⌜ KeysAt (now (map .entry)) w first step count (now (keys .exit)) ⌝ }
+{
+    let mut a = from;
+    while a < count {
+        keys[a] = key_in(map, w, first + a * step);
+        a += 1;
+    }
+}
+
+// The keys of line l, from its second cell on. Where the first has places above and before it too, the loop takes it as well:
+// whole vectors are faster than a rest.
+fn line_keys(
+    map: &[u8],
+    w: usize,
+    n: usize,
+    transposed: bool,
+    l: usize,
+    count: usize,
+    keys: &mut [u16],
+)
+    requires { ⌜ (LinesInside (now map) w n transposed (l + 1) count) × (0 < l) × (count ≤ length (now keys)) × (0 < count) ⌝ }
+    ensures { λ _. ⌜ KeysIn (now (map .entry)) w transposed l count (now (keys .exit)) ⌝ }
+{
+    if transposed {
+        fill_keys(map, w, l, w, 1, count, keys);
+        return;
+    }
+    let from = if l == 1 { 1 } else { 0 };
+    fill_keys(map, w, l * w, 1, from, count, keys);
+}
+
+// The word of each code.
+fn words_of(n: usize) -> [u32; 40]
+    requires { ⌜ (2 ≤ n) × (n ≤ 8) ⌝ }
+    ensures { λ r. ⌜ CodeWords n r ⌝ }
+{
+    let mut words = [0u32; 40];
+    let mut c: usize = 0;
+    while c < 40 {
+        words[c] = literals::call(5, ((n - 2) * 5 + c / 8) as u32, (c % 8) as u32);
+        c += 1;
+    }
+    words
+}
+
+// The word of the code at a key.
+fn word_at(codes: &[u8; 4096], words: &[u32; 40], key: u16) -> u32
+    requires { ⌜ (key < 4096) × (getD (now codes) key 0 < 40) ⌝ }
+    ensures { λ r. ⌜ r ≡ getD (now (words .entry)) (getD (now (codes .entry)) key 0) 0 ⌝ }
+{
+    let code = codes[key as usize];
+    words[code as usize]
+}
+
+// The words of line l by the keys of its cells; the first has none.
+fn emit_keyed(
+    map: &[u8],
+    codes: &[u8; 4096],
+    words: &[u32; 40],
+    keys: &[u16],
+    w: usize,
+    n: usize,
+    transposed: bool,
+    l: usize,
+    count: usize,
+    out: &mut [u32],
+    at: usize,
+) -> usize
+    requires { ⌜ (LinesInside (now map) w n transposed (l + 1) count) × (Coded n (now codes) (now words)) × (0 < l) × (0 < count)
+        × (KeysIn (now map) w transposed l count (now keys)) ⌝ }
+    requires { ⌜ (at + count ≤ length (now out)) × (count ≤ length (now keys)) ⌝ }
+    ensures { λ r. ⌜ r ≡ at + count ⌝ }
+    ensures { λ r. ⌜ now (out .exit) ≡ written (now (out .entry)) at
+        (upTo (λ a. lineWord n transposed (now (map .entry)) w l a ∷ []) count) ⌝ }
+{
+    out[at] = line_word(map, codes, w, n, transposed, l, 0);
+    let mut a: usize = 1;
+    while a < count {
+        out[at + a] = word_at(codes, words, keys[a]);
+        a += 1;
+    }
+    at + count
+}
+
+// Whether a line goes cell by cell: its cells have one neighbour, or there are too many for the room that the keys have.
+fn by_cells(l: usize, count: usize) -> bool
+    ensures { λ r. ⌜ (r ≡ false → (0 < l) × (2 ≤ count) × (count ≤ 64)) ⌝ }
+{
+    if l == 0 {
+        return true;
+    }
+    if count < 2 {
+        return true;
+    }
+    64 < count
+}
+
+// As `emit_cells`, and faster where the cells have three neighbours.
+fn emit_sent(
+    map: &[u8],
+    codes: &[u8; 4096],
+    words: &[u32; 40],
+    w: usize,
+    n: usize,
+    transposed: bool,
+    l: usize,
+    count: usize,
+    out: &mut [u32],
+    at: usize,
+) -> usize
+    requires { ⌜ (LinesInside (now map) w n transposed (l + 1) count) × (Coded n (now codes) (now words)) ⌝ }
+    requires { ⌜ at + count ≤ length (now out) ⌝ }
+    ensures { λ r. ⌜ r ≡ at + count ⌝ }
+    ensures { λ r. ⌜ now (out .exit) ≡ written (now (out .entry)) at
+        (upTo (λ a. lineWord n transposed (now (map .entry)) w l a ∷ []) count) ⌝ }
+{
+    if by_cells(l, count) {
+        return emit_cells(map, codes, w, n, transposed, l, count, out, at);
+    }
+    let mut keys = [0u16; 64];
+    line_keys(map, w, n, transposed, l, count, &mut keys);
+    emit_keyed(
+        map,
+        codes,
+        words,
+        &keys,
+        w,
+        n,
+        transposed,
+        l,
+        count,
+        out,
+        at,
+    )
 }
 
 // How many cells a line sends: all, one or none.
@@ -224,7 +378,8 @@ fn wide(flag: u8) -> u32
 // The words of line l: its flag under a context, then the cells that it sends.
 fn emit_line(
     map: &[u8],
-    codes: &[u8],
+    codes: &[u8; 4096],
+    words: &[u32; 40],
     w: usize,
     n: usize,
     transposed: bool,
@@ -235,7 +390,7 @@ fn emit_line(
     out: &mut [u32],
     at: usize,
 ) -> usize
-    requires { ⌜ (LinesInside (now map) w n transposed (l + 1) (sentCells flag len)) × (Coded (now map) w (now codes)) ⌝ }
+    requires { ⌜ (LinesInside (now map) w n transposed (l + 1) (sentCells flag len)) × (Coded n (now codes) (now words)) ⌝ }
     requires { ⌜ (context < 256) × (at + 1 + sentCells flag len ≤ length (now out)) ⌝ }
     ensures { λ r. ⌜ r ≡ at + 1 + sentCells flag len ⌝ }
     ensures { λ r. ⌜ now (out .exit) ≡ written (now (out .entry)) at
@@ -243,13 +398,14 @@ fn emit_line(
 {
     let next = literals::put(out, at, literals::call(4, context, wide(flag)));
     let count = sent_cells(flag, len);
-    emit_cells(map, codes, w, n, transposed, l, count, out, next)
+    emit_sent(map, codes, words, w, n, transposed, l, count, out, next)
 }
 
 // The words of all lines. The first has context 3, each other the flag before.
 fn emit_lines(
     map: &[u8],
-    codes: &[u8],
+    codes: &[u8; 4096],
+    words: &[u32; 40],
     flags: &[u8],
     w: usize,
     n: usize,
@@ -260,7 +416,7 @@ fn emit_lines(
     at: usize,
 ) -> usize
     requires { ⌜ (LinesInside (now map) w n transposed lines len) × (1 ≤ len) × (lines ≤ length (now flags))
-        × (Coded (now map) w (now codes)) ⌝ }
+        × (Coded n (now codes) (now words)) ⌝ }
     requires { ⌜ at + length (upTo (lineWords n transposed (now flags) (now map) w len) lines) ≤ length (now out) ⌝ }
     ensures { λ r. ⌜ r ≡ at + length (upTo (lineWords n transposed (now (flags .entry)) (now (map .entry)) w len) lines) ⌝ }
     ensures { λ r. ⌜ now (out .exit) ≡ written (now (out .entry)) at
@@ -271,7 +427,20 @@ fn emit_lines(
     let mut l: usize = 0;
     while l < lines {
         let flag = flags[l];
-        pos = emit_line(map, codes, w, n, transposed, len, l, ctx, flag, out, pos);
+        pos = emit_line(
+            map,
+            codes,
+            words,
+            w,
+            n,
+            transposed,
+            len,
+            l,
+            ctx,
+            flag,
+            out,
+            pos,
+        );
         ctx = wide(flag);
         l += 1;
     }
@@ -290,31 +459,42 @@ fn emit_orientation(transposed: bool, w: usize, h: usize, out: &mut [u32], at: u
     at
 }
 
-// As `emit_map`. The codes are told in `codes` first, of all cells at once.
-fn emit_coded(
+// As `emit_map`, with both tables lent.
+fn emit_by(
     map: &[u8],
+    codes: &[u8; 4096],
+    words: &[u32; 40],
     flags: &[u8],
     w: usize,
     h: usize,
     n: usize,
     transposed: bool,
-    codes: &mut [u8],
     out: &mut [u32],
     at: usize,
 ) -> usize
-    requires { ⌜ (LinesInside (now map) w n transposed (linesOf transposed w h) (lengthOf transposed w h)) × (w ≤ 64)
-        × (length (now map) ≤ length (now codes)) ⌝ }
+    requires { ⌜ (LinesInside (now map) w n transposed (linesOf transposed w h) (lengthOf transposed w h))
+        × (Coded n (now codes) (now words)) ⌝ }
     requires { ⌜ (1 ≤ lengthOf transposed w h) × (linesOf transposed w h ≤ length (now flags)) ⌝ }
     requires { ⌜ at + length (mapWords n transposed (now flags) (now map) w h) ≤ length (now out) ⌝ }
     ensures { λ r. ⌜ r ≡ at + length (mapWords n transposed (now (flags .entry)) (now (map .entry)) w h) ⌝ }
     ensures { λ r. ⌜ now (out .exit) ≡ written (now (out .entry)) at (mapWords n transposed (now (flags .entry)) (now (map .entry)) w h) ⌝ }
-    ensures { λ r. ⌜ Recoded (now (map .entry)) w (now (codes .entry)) (now (codes .exit)) ⌝ }
 {
-    context::code_cells(map, w, codes);
     let next = emit_orientation(transposed, w, h, out, at);
     let lines = context::lines_of(transposed, w, h);
     let len = context::length_of(transposed, w, h);
-    emit_lines(map, codes, flags, w, n, transposed, lines, len, out, next)
+    emit_lines(
+        map,
+        codes,
+        words,
+        flags,
+        w,
+        n,
+        transposed,
+        lines,
+        len,
+        out,
+        next,
+    )
 }
 
 // The words of the index map.
@@ -335,6 +515,7 @@ pub fn emit_map(
     ensures { λ r. ⌜ r ≡ at + length (mapWords n transposed (now (flags .entry)) (now (map .entry)) w h) ⌝ }
     ensures { λ r. ⌜ now (out .exit) ≡ written (now (out .entry)) at (mapWords n transposed (now (flags .entry)) (now (map .entry)) w h) ⌝ }
 {
-    let mut codes = [0u8; 4096];
-    emit_coded(map, flags, w, h, n, transposed, &mut codes, out, at)
+    let codes = rows::codes();
+    let words = words_of(n);
+    emit_by(map, &codes, &words, flags, w, h, n, transposed, out, at)
 }

@@ -1,54 +1,27 @@
-use native.Mathlib.Nat.{zero-mul}
-use native.Mathlib.Omega.{arith}
 use Prim.Native.Nat.{_+_, _*_, _<_}
-use mathlib.Core.Path.{_≡_, refl, _∙_}
-use lib.ListN.{length}
-use Rattle.context.specs.Map.{cell}
-use Rattle.context.proofs.Places.{row-above}
-use Rattle.emit.specs.Map.{cellWord}
-use Rattle.emit.proofs.Cells.{top-word, side-word, code-low, coded-word}
+use native.Mathlib.Omega.{arith}
+use mathlib.Core.Path.{_≡_, refl, sym, _∙_}
 use borrow.Author.Needs.{needs}
+use Rattle.near.specs.Near.{Below}
+use Rattle.emit.proofs.Keys.{below-all, corner-word, row-low, ctx-low, rank-low, word-by-row}
 use Rattle.emit.proofs.cell_word.Statement.{statement}
 use Rattle.emit.proofs.cell_word.Tie as tie
 
-mul-place : tie.Need-mul-place
-mul-place c = search needs
+-- all cells are below n
+low : (s : tie.Start) → Below (s .args .map .now) (s .args .n)
+low s = below-all (s .args .map .now) (s .args .n) (omega (arith, s .pre .0 .0)) (s .pre .1)
 
-add-place : tie.Need-add-place
-add-place c = search needs
+mul-index-at : tie.Need-mul-index-at
+mul-index-at c = search needs
 
-coded-word-requires : tie.Need-coded-word-requires
-coded-word-requires c κs =
-    let s = c .before .before .before .before in
-    let h : s .args .y * s .args .w + s .args .x < length (s .args .codes .now) = omega (arith, s .pre .0 .3, s .pre .0 .4 .room) in
-    (s .pre .0 .0, s .pre .0 .1, h, code-low _ _ _ _ _ _ (s .pre .0 .1) (omega arith) (omega arith) (s .pre .0 .2) (s .pre .0 .3) (s .pre .1) (s .pre .0 .4))
-
-returns : tie.Need-returns
-returns c =
-    let s = c .before .before .before .before .before in
-    c .coded-word .ensures
-    ∙ coded-word _ _ _ _ _ _ (s .pre .0 .1) (omega arith) (omega arith) (s .pre .0 .2) (s .pre .0 .3) (s .pre .1) (s .pre .0 .4)
-
-sub-edge-word : tie.Need-sub-edge-word
-sub-edge-word c = let a = c .before .before .before .before .args in omega (arith, row-above (a .y) (a .w) (omega arith))
-
-edge-word-requires : tie.Need-edge-word-requires
-edge-word-requires c κs = search needs
-
-returns-2 : tie.Need-returns-2
-returns-2 c = c .edge-word .ensures ∙ side-word _ _ _ _ _ (omega arith) (omega arith)
-
-sub-edge-word-2 : tie.Need-sub-edge-word-2
-sub-edge-word-2 c = search needs
-
-edge-word-requires-2 : tie.Need-edge-word-requires-2
-edge-word-requires-2 c κs = search needs
-
-returns-3 : tie.Need-returns-3
-returns-3 c = c .edge-word2 .ensures ∙ top-word _ _ _ _ _ (omega arith) (omega arith)
+add-index-at : tie.Need-add-index-at
+add-index-at c = search needs
 
 index-at-requires : tie.Need-index-at-requires
 index-at-requires c κs = search needs
+
+is-corner-requires : tie.Need-is-corner-requires
+is-corner-requires c κs = search needs
 
 cast-call : tie.Need-cast-call
 cast-call c = search needs
@@ -59,30 +32,89 @@ cast-call-2 c = search needs
 call-requires : tie.Need-call-requires
 call-requires c κs = search needs
 
-returns-4 : tie.Need-returns-4
-unfolding cellWord cell
-returns-4 c =
-    let a = c .before .before .before .before .before .before .before .args in
-    let ey : a .y ≡ 0 = omega arith in
-    let ex : a .x ≡ 0 = omega arith in
-    c .call .ensures ∙ rw (c .before .before .index-at .ensures) (rw (ey, ex, zero-mul) refl)
+returns : tie.Need-returns
+returns c =
+    let a = c .before .before .before .before .before .before .args in
+    let corner = c .before .before .before .is-corner .ensures in
+    c .call .ensures ∙ rw (c .before .before .before .before .index-at .ensures)
+    (corner-word (a .map .now) (a .w) (a .n) (a .y) (a .x) (sym corner ∙ c .before .before .if1 .taken))
+
+key-at-requires : tie.Need-key-at-requires
+key-at-requires c κs =
+    let s = c .before .before .before .before in
+    (s .pre .0 .3, λ i. omega (arith, low s i, s .pre .0 .1), s .pre .0 .4)
+
+rank-at-requires : tie.Need-rank-at-requires
+rank-at-requires c κs =
+    let s = c .before .before .before .before .before in
+    let a = s .args in
+    let index = c .before .before .before .index-at .ensures in (
+      s .pre .0 .4,
+      rw (c .key-at .ensures) (row-low (a .map .now) (a .w) (a .n) (a .y) (a .x) (s .pre .0 .0) (s .pre .0 .1) (low s)),
+      rw index (omega (arith, low s (a .y * a .w + a .x), s .pre .0 .1)),
+    )
+
+-- the context of the key
+context : (c : tie.After-key-at) → c .key-at .result .ctx < 5
+context c =
+    let s = c .before .before .before .before .before in
+    let a = s .args in
+    rw (c .key-at .ensures) (ctx-low (a .map .now) (a .w) (a .n) (a .y) (a .x) (s .pre .0 .0) (s .pre .0 .1) (low s))
+
+sub-call : tie.Need-sub-call
+sub-call c = search needs
+
+mul-call : tie.Need-mul-call
+mul-call c = search needs
+
+add-call : tie.Need-add-call
+add-call c = omega (arith, context (c .before .before), c .before .before .before .before .before .before .before .pre .0 .1)
+
+cast-call-3 : tie.Need-cast-call-3
+cast-call-3 c = omega (arith, context (c .before .before), c .before .before .before .before .before .before .before .pre .0 .1)
+
+cast-call-4 : tie.Need-cast-call-4
+cast-call-4 c = search needs
+
+call-requires-2 : tie.Need-call-requires-2
+call-requires-2 c κs =
+    let s = c .before .before .before .before .before .before .before .before in
+    let a = s .args in
+    let rank = c .before .before .rank-at .ensures in
+    let index = c .before .before .before .before .before .before .index-at .ensures in
+    let key = c .before .before .before .key-at .ensures in
+    let r = rank-low (a .map .now) (a .w) (a .n) (a .y) (a .x) (s .pre .0 .0) (s .pre .0 .1) (low s) in
+    (omega arith, omega (arith, context (c .before .before .before), s .pre .0 .1), rw (rank, index, key) (omega (arith, r)))
+
+returns-2 : tie.Need-returns-2
+returns-2 c =
+    let s = c .before .before .before .before .before .before .before .before .before in
+    let a = s .args in
+    let rank = c .before .before .before .rank-at .ensures in
+    let index = c .before .before .before .before .before .before .before .index-at .ensures in
+    let key = c .before .before .before .before .key-at .ensures in
+    let corner = c .before .before .before .before .before .before .is-corner .ensures in
+    c .call2 .ensures ∙ rw (rank, index, key)
+    (word-by-row (a .map .now) (a .w) (a .n) (a .y) (a .x) (s .pre .0 .0) (s .pre .0 .1) (low s) (sym corner ∙ c .before .before .before .before .before .if1 .left))
 
 pub cell-word-spec : {M : Type 1} → statement M
 cell-word-spec =
     tie.close
     (tie.spec
-    mul-place
-    add-place
-    coded-word-requires
-    returns
-    sub-edge-word
-    edge-word-requires
-    returns-2
-    sub-edge-word-2
-    edge-word-requires-2
-    returns-3
+    mul-index-at
+    add-index-at
     index-at-requires
+    is-corner-requires
     cast-call
     cast-call-2
     call-requires
-    returns-4)
+    returns
+    key-at-requires
+    rank-at-requires
+    sub-call
+    mul-call
+    add-call
+    cast-call-3
+    cast-call-4
+    call-requires-2
+    returns-2)

@@ -25,7 +25,7 @@ loop-holds c = (search needs, search needs, refl, refl)
 
 line-word-requires : tie.Need-line-word-requires Inv-loop μ-loop
 line-word-requires c κs =
-    let s = c .before .before .before .before .before .before in
+    let s = c .before .before .before .before .before in
     let i = s .pre .0 .0 in
     let a = c .before .before .loop .a in
     let l = s .args .l in
@@ -45,7 +45,7 @@ loop-less c = search needs
 
 loop-again : tie.Need-loop-again Inv-loop μ-loop
 loop-again c =
-    let s = c .before .before .before .before .before .before .before .before .before .before .args in
+    let s = c .before .before .before .before .before .before .before .before .before .args in
     let l = c .before .before .before .before .before .before .loop in
     let p = c .before .before .put in
     let word = lineWord (s .n) (s .transposed) (s .map .now) (s .w) (s .l) in (
@@ -61,7 +61,7 @@ same-length c = search needs
 returns : tie.Need-returns Inv-loop μ-loop
 returns c =
     let l = c .before .loop in
-    let e : l .a ≡ c .before .before .before .before .before .args .count = omega arith in
+    let e : l .a ≡ c .before .before .before .before .args .count = omega arith in
     (l .inv .1 ∙ rw e refl, l .inv .3 ∙ rw e refl)
 
 pub emit-cells-spec : {M : Type 1} → statement M

@@ -19,9 +19,9 @@ put-requires c κs = search needs
 sent-cells-requires : tie.Need-sent-cells-requires
 sent-cells-requires c κs = search needs
 
-emit-cells-requires : tie.Need-emit-cells-requires
-emit-cells-requires c κs =
-    let s = c .before .before .before .before .before .before .before .before .before .before .before in
+emit-sent-requires : tie.Need-emit-sent-requires
+emit-sent-requires c κs =
+    let s = c .before .before .before .before .before .before .before .before .before .before in
     let k = c .before .sent-cells in
     let p = c .before .before .before .before .put in
     let h : p .result + k .result ≤ length (p .last .0) = omega (arith, k .ensures, p .ensures .0, p .kept .0, s .pre .1 .1) in
@@ -38,7 +38,7 @@ returns c =
     let p = flag .put in
     let call = flag .before .call .ensures in
     let wide = flag .before .before .wide .ensures .0 in
-    let e = c .before .before .emit-cells in (
+    let e = c .before .before .emit-sent in (
       omega (arith, e .ensures .0, k, p .ensures .0),
       e .ensures .1 ∙ rw (p .ensures .1, p .ensures .0, k, call, wide) refl,
     )
@@ -51,6 +51,6 @@ emit-line-spec =
     call-requires
     put-requires
     sent-cells-requires
-    emit-cells-requires
+    emit-sent-requires
     same-length
     returns)

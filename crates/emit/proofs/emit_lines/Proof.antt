@@ -25,11 +25,11 @@ record Inv (f : ℕ → List ℕ) (flags : List ℕ) (lines : ℕ) (out₀ : Lis
   wrote : out ≡ written out₀ at (upTo f l)
 
 abbrev Inv-loop : tie.InvT-loop
-Inv-loop map codes flags w n transposed lines len out₀ at pos₀ context₀ l₀ out pos context l =
+Inv-loop map codes words flags w n transposed lines len out₀ at pos₀ context₀ l₀ out pos context l =
     Inv (lineWords n transposed flags map w len) flags lines out₀ at out pos context l
 
 abbrev μ-loop : tie.MeasureT-loop
-μ-loop map codes flags w n transposed lines len out₀ at pos₀ context₀ l₀ out pos context l = lines - l
+μ-loop map codes words flags w n transposed lines len out₀ at pos₀ context₀ l₀ out pos context l = lines - l
 
 module _ (n : ℕ) (t : Bool) (flags map : List ℕ) (w len lines : ℕ) (out₀ : List ℕ) (at : ℕ) (out : List ℕ) (pos context l : ℕ)
     (v : Inv (lineWords n t flags map w len) flags lines out₀ at out pos context l) (more : l < lines) where
@@ -73,16 +73,16 @@ shared-slice-read-flag c = search needs
 -- first the words, then the room that they need: a wrong flag is refused at its word
 loop-again : tie.Need-loop-again Inv-loop μ-loop
 loop-again c =
-    let s = c .before .before .before .before .before .before .before .before .before .before .before .before in
+    let s = c .before .before .before .before .before .before .before .before .before .before .before in
     let l = c .before .before .before .before .before .before .before .loop in
     let e = c .before .before .before .emit-line in
     turn (s .args .n) (s .args .transposed) (s .args .flags .now) (s .args .map .now) (s .args .w) (s .args .len) (s .args .lines) _ _ _ _ _ (l .l) (l .inv)
-    (c .before .before .before .before .before .before .loop-test .taken) (e .last .1 .1 .1 .1 .1 .1 .1 .1 .1 .0) (e .result) (c .wide .result)
-    (e .ensures .0) (e .ensures .1) (e .kept .1 .1 .1 .1 .1 .1 .1 .1 .1 .0) (c .wide .ensures .0) (c .wide .ensures .1)
+    (c .before .before .before .before .before .before .loop-test .taken) (e .last .1 .1 .1 .1 .1 .1 .1 .1 .1 .1 .0) (e .result) (c .wide .result)
+    (e .ensures .0) (e .ensures .1) (e .kept .1 .1 .1 .1 .1 .1 .1 .1 .1 .1 .0) (c .wide .ensures .0) (c .wide .ensures .1)
 
 emit-line-requires : tie.Need-emit-line-requires Inv-loop μ-loop
 emit-line-requires c κs =
-    let s = c .before .before .before .before .before .before .before .before in
+    let s = c .before .before .before .before .before .before .before in
     let l = c .before .before .before .loop in
     let h : l .pos + 1 + sentCells (getD (s .args .flags .now) (l .l) 0) (s .args .len) ≤ length (l .out) =
     fits (s .args .n) (s .args .transposed) (s .args .flags .now) (s .args .map .now) (s .args .w) (s .args .len) (s .args .lines) _ _ _ _ _ (l .l) (l .inv)
@@ -109,7 +109,7 @@ same-length c = search needs
 returns : tie.Need-returns Inv-loop μ-loop
 returns c =
     let l = c .before .loop in
-    let e : l .l ≡ c .before .before .before .before .before .before .args .lines = omega arith in
+    let e : l .l ≡ c .before .before .before .before .before .args .lines = omega arith in
     (l .inv .place ∙ rw e refl, l .inv .wrote ∙ rw e refl)
 
 pub emit-lines-spec : {M : Type 1} → statement M

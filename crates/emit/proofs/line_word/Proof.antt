@@ -6,10 +6,10 @@ returns : tie.Need-returns
 returns c = rw (c .before .if1 .taken) (c .cell-word .ensures)
 
 cell-word-requires : tie.Need-cell-word-requires
-cell-word-requires c κs = rw (c .if1 .taken) at (c .before .before .before .pre)
+cell-word-requires c κs = rw (c .if1 .taken) at (c .before .before .pre)
 
 cell-word-requires-2 : tie.Need-cell-word-requires-2
-cell-word-requires-2 c κs = rw (c .if1 .left) at (c .before .before .before .pre)
+cell-word-requires-2 c κs = rw (c .if1 .left) at (c .before .before .pre)
 
 returns-2 : tie.Need-returns-2
 returns-2 c = rw (c .before .if1 .left) (c .cell-word2 .ensures)

@@ -9,8 +9,8 @@ use Rattle.lists.specs.Counted.{upTo}
 use Rattle.lists.proofs.Written.{written-append}
 use Rattle.context.specs.Map.{linesOf, lengthOf}
 use Rattle.emit.specs.Map.{lineWords, orientWords, mapWords}
-use Rattle.emit.proofs.emit_coded.Statement.{statement}
-use Rattle.emit.proofs.emit_coded.Tie as tie
+use Rattle.emit.proofs.emit_by.Statement.{statement}
+use Rattle.emit.proofs.emit_by.Tie as tie
 
 -- the orientation, then the lines
 module _ (n : ℕ) (t : Bool) (flags map : List ℕ) (w h : ℕ) where
@@ -24,14 +24,9 @@ module _ (n : ℕ) (t : Bool) (flags map : List ℕ) (w h : ℕ) where
   sum : length (mapWords n t flags map w h) ≡ length (orientWords w h t) + length lines
   sum = rw parts (length-append (orientWords w h t) lines)
 
-code-cells-requires : tie.Need-code-cells-requires
-code-cells-requires c κs =
-    let s = c .before .before .before .before .before in
-    ((s .pre .0 .1, s .pre .0 .2), λ i h. omega (arith, s .pre .0 .0 .below i h, s .pre .0 .0 .eight))
-
 emit-orientation-requires : tie.Need-emit-orientation-requires
 emit-orientation-requires c κs =
-    let s = c .before .before .before .before .before .before .before .before .before in
+    let s = c .before .before .before .before in
     let a = s .args in
     let g : a .at + length (orientWords (a .w) (a .h) (a .transposed)) ≤ length (a .out .now) =
     omega (arith, sum (a .n) (a .transposed) (a .flags .now) (a .map .now) (a .w) (a .h), s .pre .1 .1) in
@@ -45,47 +40,37 @@ length-of-requires c κs = search needs
 
 emit-lines-requires : tie.Need-emit-lines-requires
 emit-lines-requires c κs =
-    let s = c .before .before .before .before .before .before .before .before .before .before .before .before .before .before .before .before in
+    let s = c .before .before .before .before .before .before .before .before .before .before in
     let a = s .args in
-    let o = c .before .before .before .before .before .before .emit-orientation in
+    let o = c .before .before .before .before .before .emit-orientation in
     let g : o .result + length (lines (a .n) (a .transposed) (a .flags .now) (a .map .now) (a .w) (a .h)) ≤ length (o .last .1 .1 .1 .0) =
     omega (arith, sum (a .n) (a .transposed) (a .flags .now) (a .map .now) (a .w) (a .h), s .pre .1 .1, o .ensures .0, o .kept .1 .1 .1 .0) in
-    rw (c .before .before .length-of .ensures, c .before .before .before .lines-of .ensures)
-    ((s .pre .0 .0, s .pre .1 .0 .0, s .pre .1 .0 .1, c .before .before .before .before .before .before .before .before .before .before .code-cells .ensures .coded), g)
+    rw (c .before .length-of .ensures, c .before .before .lines-of .ensures) ((s .pre .0 .0, s .pre .1 .0 .0, s .pre .1 .0 .1, s .pre .0 .1), g)
 
 same-length : tie.Need-same-length
 same-length c = search needs
 
-same-length-2 : tie.Need-same-length-2
-same-length-2 c = search needs
-
 returns : tie.Need-returns
 returns c =
-    let a = c .before .before .before .before .before .before .before .before .before .before .before .before .before .before .before .before .before .before .before .args in
-    let o = c .before .before .before .before .before .before .before .before .before .emit-orientation in
+    let a = c .before .before .before .before .before .before .before .before .before .before .before .before .before .args in
+    let o = c .before .before .before .before .before .before .before .before .emit-orientation in
     let e = c .before .before .emit-lines in
-    let k = c .before .before .before .before .before .length-of .ensures in
-    let j = c .before .before .before .before .before .before .lines-of .ensures in
-    let all = lines (a .n) (a .transposed) (a .flags .now) (a .map .now) (a .w) (a .h) in
-    let codes = c .before .before .before .before .before .before .before .before .before .before .before .before .before in (
+    let k = c .before .before .before .before .length-of .ensures in
+    let j = c .before .before .before .before .before .lines-of .ensures in
+    let all = lines (a .n) (a .transposed) (a .flags .now) (a .map .now) (a .w) (a .h) in (
       omega (arith, rw (k, j) at (e .ensures .0), o .ensures .0, sum (a .n) (a .transposed) (a .flags .now) (a .map .now) (a .w) (a .h)),
-      (
-        (rw (k, j) at (e .ensures .1))
-            ∙ rw (o .ensures .0, o .ensures .1, parts (a .n) (a .transposed) (a .flags .now) (a .map .now) (a .w) (a .h))
-            (written-append (a .out .now) (a .at) (orientWords (a .w) (a .h) (a .transposed)) all),
-        codes .code-cells .ensures,
-      ),
+      (rw (k, j) at (e .ensures .1))
+          ∙ rw (o .ensures .0, o .ensures .1, parts (a .n) (a .transposed) (a .flags .now) (a .map .now) (a .w) (a .h))
+          (written-append (a .out .now) (a .at) (orientWords (a .w) (a .h) (a .transposed)) all),
     )
 
-pub emit-coded-spec : {M : Type 1} → statement M
-emit-coded-spec =
+pub emit-by-spec : {M : Type 1} → statement M
+emit-by-spec =
     tie.close
     (tie.spec
-    code-cells-requires
     emit-orientation-requires
     lines-of-requires
     length-of-requires
     emit-lines-requires
     same-length
-    same-length-2
     returns)
