@@ -24,7 +24,7 @@ pub fn edge_key(near: Index) -> Key
     }
 }
 
-fn three_key(codes: &[u8; 4096], left: Index, top: Index, diag: Index) -> Key
+pub fn three_key(codes: &[u8; 4096], left: Index, top: Index, diag: Index) -> Key
     requires { ⌜ (now codes ≡ codeTable) × (left .0 < 8) × (top .0 < 8) × (diag .0 < 8) ⌝ }
     ensures { λ r. ⌜ r ≡ threeKey (left .0) (top .0) (diag .0) ⌝ }
 {

@@ -1,18 +1,15 @@
 -- The index of a cell by the word read. Assumes nothing.
 use mathlib.Core.Path.{_≡_, refl, sym, ap, _∙_}
-use mathlib.Core.Bool.{Bool, true, false}
 use mathlib.Core.List.{List}
 use Prim.Native.Nat.{ℕ, _+_, _*_, _-_, _<_, _≤_}
 use native.Mathlib.Omega.{arith}
 use lib.ListN.{getD, set, drop}
 use borrow.Author.Tests.{eq-eqb, ne-eqb}
-use Rattle.context.specs.Map.{rowAt, colAt}
 use Rattle.context.specs.Order.{Around, orderOf}
-use Rattle.context.specs.declared.Near.{Near}
-use Rattle.context.proofs.Order.{order-below}
-use Rattle.near.specs.Near.{nearAt, Below, Usable, indexAt}
-use Rattle.near.proofs.Laws.{away, usable, around-firsts}
-use Rattle.near.proofs.Index.{near-index}
+use Rattle.rows.specs.Rows.{orderRow}
+use Rattle.near.specs.declared.Key.{Key}
+use Rattle.near.specs.Near.{Keyed}
+use Rattle.near.proofs.Keys.{key-index, key-index-below}
 use Rattle.scan.specs.declared.Scan.{Scan}
 use Rattle.scan.specs.Scan.{placeAt, aroundIn}
 use Rattle.reader.specs.Reader.{Got, after, ret, due}
@@ -22,38 +19,18 @@ use Rattle.reader.specs.declared.Taken.{Taken}
 use Rattle.reader.proofs.Steps.{told-made}
 use Rattle.read_map.specs.Map.{readRanked, readIndex, readCell}
 
-row-column : (t : Bool) (l a : ℕ) → 0 < l + a → 0 < rowAt t l a + colAt t l a
-row-column true l a h = omega arith
-row-column false l a h = h
-
-module _ (map : List ℕ) (s : Scan) (n l a : ℕ) (two : 2 ≤ n) (eight : n ≤ 8) (below : Below map n) (m : Near)
-    (is : m ≡ nearAt map (s .w) (rowAt (s .transposed) l a) (colAt (s .transposed) l a)) where
-  abbrev y : ℕ
-  y = rowAt (s .transposed) l a
-
-  abbrev x : ℕ
-  x = colAt (s .transposed) l a
-
-  abbrev o : Around
-  o = aroundIn map s l a
-
-  pub near-usable : Usable m n
-  near-usable = rw is (usable map (s .w) y x n below (omega arith) eight)
-
-  pub ranked-read : 0 < l + a → (ws : List ℕ) (at : ℕ) (t : Taken) (i : ℕ) → Took ws at 5 ((n - 2) * 5 + m .ctx) n t
-      → i ≡ indexAt m (t .second) → (readRanked n o (drop at ws) ≡ told (t .place) i ws) × (i < n)
+module _ (n : ℕ) (two : 2 ≤ n) (eight : n ≤ 8) (o : Around) (key : Key) (is : Keyed o n key) where
+  pub ranked-read : (ws : List ℕ) (at : ℕ) (t : Taken) (i : ℕ) → Took ws at 5 ((n - 2) * 5 + key .ctx) n t
+      → i ≡ getD (orderRow (key .row)) (t .second) 0 → (readRanked n o (drop at ws) ≡ told (t .place) i ws) × (i < n)
   unfolding readRanked
-  ranked-read some ws at t i k e =
-      let h : 0 < y + x = row-column (s .transposed) l a some in
-      let c : m .ctx ≡ o .ctx = ap (λ (v : Near). v .ctx) (is ∙ away map (s .w) y x h) in
+  ranked-read ws at t i k e =
       let r : t .second < n = k .below (omega arith) in
-      let j : i ≡ getD (orderOf o n) (t .second) 0 =
-      e ∙ ap (λ (v : Near). indexAt v (t .second)) is ∙ near-index map (s .w) y x n (t .second) below eight h r in
+      let j : i ≡ getD (orderOf o n) (t .second) 0 = e ∙ key-index o n key is eight (t .second) r in
       let d : due 5 ((n - 2) * 5 + o .ctx) n (drop at ws) ≡ told (t .place) (t .second) ws =
-      ap (λ (v : ℕ). due 5 ((n - 2) * 5 + v) n (drop at ws)) (sym c) ∙ k .reads in (
+      ap (λ (v : ℕ). due 5 ((n - 2) * 5 + v) n (drop at ws)) (sym (is .ctx)) ∙ k .reads in (
         ap (λ (g : Got ℕ). after g (λ r. ret (getD (orderOf o n) r 0))) d
             ∙ told-made (t .place) (t .second) ws (λ r. getD (orderOf o n) r 0) ∙ ap (λ (v : ℕ). told (t .place) v ws) (sym j),
-        rw j (order-below o n (around-firsts map (s .w) y x n below h) (t .second) r),
+        rw j (key-index-below o n key is eight (t .second) r),
       )
 
 pub index-first : (map : List ℕ) (s : Scan) (n l a : ℕ) (vs : List ℕ) → l + a ≡ 0 → readIndex n s l a map vs ≡ due 2 n n vs

@@ -6,11 +6,12 @@ use reader::take;
 use scan::Scan;
 ghost use mathlib.Core.Path.{_≡_};
 ghost use mathlib.Core.Bool.{cond};
-ghost use Prim.Native.Nat.{_+_, _<_, _≤_};
+ghost use Prim.Native.Nat.{_+_, _-_, _<_, _≤_};
 ghost use lib.Dec.{eqb};
 ghost use lib.ListN.{length, drop};
+ghost use Rattle.rows.specs.Rows.{Tables};
 ghost use Rattle.near.specs.Near.{Below};
-ghost use Rattle.scan.specs.Scan.{aroundIn, Sound};
+ghost use Rattle.scan.specs.Scan.{cellIn, aroundIn, Sound};
 ghost use Rattle.reader.specs.Reader.{due, readUpTo};
 ghost use Rattle.reader.specs.Steps.{told};
 ghost use Rattle.read_map.specs.Map.{readRanked, readIndex, readCell, readCells, readLines};
@@ -34,27 +35,51 @@ fn read_first(words: &[u32], at: usize, n: usize) -> Found
     }
 }
 
-// The index of another cell: the one at the rank read, in the order of its context.
-fn read_ranked(words: &[u32], at: usize, map: &[u8], s: Scan, n: usize, l: usize, a: usize) -> Found
+// The index of another cell: the one at the rank read, in the order of its row.
+fn read_ranked(
+    words: &[u32],
+    at: usize,
+    map: &[u8],
+    s: Scan,
+    n: usize,
+    l: usize,
+    a: usize,
+    before: Index,
+    orders: &[u8; 4096],
+    codes: &[u8; 4096],
+) -> Found
     requires { ⌜ Sound s (length (now map)) × (l < s .lines) × (a < s .len) × (0 < l + a) ⌝ }
-    requires { ⌜ (2 ≤ n) × (n ≤ 8) × Below (now map) n ⌝ }
+    requires { ⌜ (2 ≤ n) × (n ≤ 8) × Below (now map) n × Tables (now orders) (now codes)
+        × (0 < a → before .0 ≡ cellIn (now map) s l (a - 1)) ⌝ }
     ensures { λ r. ⌜ readRanked n (aroundIn (now (map .entry)) s l a) (drop at (now (words .entry)))
         ≡ told (r .place) (r .index .0) (now (words .entry)) ⌝ }
     ensures { λ r. ⌜ r .index .0 < n ⌝ }
 {
-    let m = scan::near_cell(map, s, l, a);
-    let taken = take(words, at, 5, ((n - 2) * 5 + m.ctx) as u32, n as u32);
+    let key = scan::key_after(map, codes, s, l, a, before);
+    let taken = take(words, at, 5, ((n - 2) * 5 + key.ctx) as u32, n as u32);
     let place = taken.place;
     Found {
-        index: near::index_at(m, Rank(taken.second as u8)),
+        index: rows::index_at(orders, key.row, Rank(taken.second as u8)),
         place,
     }
 }
 
-// The index of cell a of line l.
-fn read_index(words: &[u32], at: usize, map: &[u8], s: Scan, n: usize, l: usize, a: usize) -> Found
+// The index of cell a of line l; `before` is that of the cell before it on the line.
+fn read_index(
+    words: &[u32],
+    at: usize,
+    map: &[u8],
+    s: Scan,
+    n: usize,
+    l: usize,
+    a: usize,
+    before: Index,
+    orders: &[u8; 4096],
+    codes: &[u8; 4096],
+) -> Found
     requires { ⌜ Sound s (length (now map)) × (l < s .lines) × (a < s .len) ⌝ }
-    requires { ⌜ (2 ≤ n) × (n ≤ 8) × Below (now map) n ⌝ }
+    requires { ⌜ (2 ≤ n) × (n ≤ 8) × Below (now map) n × Tables (now orders) (now codes)
+        × (0 < a → before .0 ≡ cellIn (now map) s l (a - 1)) ⌝ }
     ensures { λ r. ⌜ readIndex n s l a (now (map .entry)) (drop at (now (words .entry)))
         ≡ told (r .place) (r .index .0) (now (words .entry)) ⌝ }
     ensures { λ r. ⌜ r .index .0 < n ⌝ }
@@ -62,24 +87,34 @@ fn read_index(words: &[u32], at: usize, map: &[u8], s: Scan, n: usize, l: usize,
     if l + a == 0 {
         return read_first(words, at, n);
     }
-    read_ranked(words, at, map, s, n, l, a)
+    read_ranked(words, at, map, s, n, l, a, before, orders, codes)
 }
 
 // Reads the cells of line l one by one.
-fn read_cells(words: &[u32], at: usize, map: &mut [u8], s: Scan, n: usize, l: usize) -> Place
+fn read_cells(
+    words: &[u32],
+    at: usize,
+    map: &mut [u8],
+    s: Scan,
+    n: usize,
+    l: usize,
+    orders: &[u8; 4096],
+    codes: &[u8; 4096],
+) -> Place
     requires { ⌜ Sound s (length (now map)) × (l < s .lines) ⌝ }
-    requires { ⌜ (2 ≤ n) × (n ≤ 8) × Below (now map) n ⌝ }
+    requires { ⌜ (2 ≤ n) × (n ≤ 8) × Below (now map) n × Tables (now orders) (now codes) ⌝ }
     ensures { λ r. ⌜ readUpTo (readCell n s l) (s .len) (now (map .entry)) (drop at (now (words .entry)))
         ≡ told r (now (map .exit)) (now (words .entry)) ⌝ }
     ensures { λ r. ⌜ Below (now (map .exit)) n ⌝ }
 {
     let mut place = Place { at, fault: 0 };
+    let mut before = Index(0);
     let mut a: usize = 0;
     while a < s.len {
-        let found = read_index(words, place.at, map, s, n, l, a);
-        let index = found.index;
+        let found = read_index(words, place.at, map, s, n, l, a, before, orders, codes);
+        before = found.index;
         let p = scan::place(s, l, a);
-        map[p] = index.0;
+        map[p] = before.0;
         place = found.place;
         if place.fault != 0 {
             return place;
@@ -98,18 +133,20 @@ fn read_sent(
     n: usize,
     l: usize,
     flag: u8,
+    orders: &[u8; 4096],
+    codes: &[u8; 4096],
 ) -> Place
     requires { ⌜ Sound s (length (now map)) × (l < s .lines) × (2 ≤ flag → 0 < l) ⌝ }
-    requires { ⌜ (2 ≤ n) × (n ≤ 8) × Below (now map) n ⌝ }
+    requires { ⌜ (2 ≤ n) × (n ≤ 8) × Below (now map) n × Tables (now orders) (now codes) ⌝ }
     ensures { λ r. ⌜ readCells flag n s l (now (map .entry)) (drop at (now (words .entry)))
         ≡ told r (now (map .exit)) (now (words .entry)) ⌝ }
     ensures { λ r. ⌜ Below (now (map .exit)) n ⌝ }
 {
     if flag == 0 {
-        return read_cells(words, at, map, s, n, l);
+        return read_cells(words, at, map, s, n, l, orders, codes);
     }
     if flag == 1 {
-        let found = read_index(words, at, map, s, n, l, 0);
+        let found = read_index(words, at, map, s, n, l, 0, Index(0), orders, codes);
         let index = found.index;
         scan::fill_line(map, s, l, index.0);
         return found.place;
@@ -133,9 +170,11 @@ pub fn read_lines(
     flags: &mut [u8],
     s: Scan,
     n: usize,
+    orders: &[u8; 4096],
+    codes: &[u8; 4096],
 ) -> Place
     requires { ⌜ Sound s (length (now map)) × (length (now flags) ≡ s .lines) ⌝ }
-    requires { ⌜ (2 ≤ n) × (n ≤ 8) × Below (now map) n ⌝ }
+    requires { ⌜ (2 ≤ n) × (n ≤ 8) × Below (now map) n × Tables (now orders) (now codes) ⌝ }
     ensures { λ r. ⌜ readLines n s (record { flags = now (flags .entry); map = now (map .entry) }) (drop at (now (words .entry)))
         ≡ told r (record { flags = now (flags .exit); map = now (map .exit) }) (now (words .entry)) ⌝ }
 {
@@ -149,7 +188,7 @@ pub fn read_lines(
             return next;
         }
         let flag = taken.second as u8;
-        place = read_sent(words, next.at, map, s, n, l, flag);
+        place = read_sent(words, next.at, map, s, n, l, flag, orders, codes);
         if place.fault != 0 {
             return place;
         }

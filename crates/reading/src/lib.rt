@@ -8,6 +8,7 @@ ghost use Prim.Native.Nat.{_*_, _≤_};
 ghost use lib.Dec.{eqb};
 ghost use lib.ListN.{length, take, drop, replicate};
 ghost use Rattle.lists.specs.Same.{sameList};
+ghost use Rattle.rows.specs.Rows.{Tables};
 ghost use Rattle.scan.specs.Scan.{scanOf};
 ghost use Rattle.accept.specs.Palette.{paletteOf};
 ghost use Rattle.reader.specs.Steps.{told};
@@ -117,16 +118,18 @@ fn read_rest(
     aside: &mut [u32],
     map: &mut [u8],
     flags: &mut [u8],
+    orders: &[u8; 4096],
+    codes: &[u8; 4096],
 ) -> Palette
     requires { ⌜ Headed b (now cache) (now words) (length (now map)) (length (now flags)) ⌝ }
     requires { ⌜ (now cells ≡ replicate (b .width * b .height) 0) × (now lines ≡ replicate (scanOf (b .width) (b .height) (b .transposed) .lines) 0)
-        × (4234 ≤ length (now aside)) ⌝ }
+        × (4234 ≤ length (now aside)) × Tables (now orders) (now codes) ⌝ }
     ensures { λ r. ⌜ Reads
         (reading (b .width) (b .height) (b .bd) (now (cache .entry)) (length (now (map .entry))) (length (now (flags .entry))) (now (words .entry)))
         (now (map .entry)) (now (map .exit)) (now (flags .entry)) (now (flags .exit)) r ⌝ }
 {
     let s = scan::scan_of(b.width, b.height, b.transposed);
-    let place = read_map::read_lines(words, b.at, cells, lines, s, b.n);
+    let place = read_map::read_lines(words, b.at, cells, lines, s, b.n, orders, codes);
     if place.fault != 0 {
         return accept::refuse(place.fault);
     }
@@ -148,13 +151,15 @@ fn read_rest(
     }
 }
 
-// As `read`, behind colours and orientation: with room aside for cells, flags and the list.
+// As `read`, behind colours and orientation: with room aside for cells, flags and the list, and the tables made once.
 fn read_aside(b: Head, cache: &[u16], words: &[u32], map: &mut [u8], flags: &mut [u8]) -> Palette
     requires { ⌜ Headed b (now cache) (now words) (length (now map)) (length (now flags)) ⌝ }
     ensures { λ r. ⌜ Reads
         (reading (b .width) (b .height) (b .bd) (now (cache .entry)) (length (now (map .entry))) (length (now (flags .entry))) (now (words .entry)))
         (now (map .entry)) (now (map .exit)) (now (flags .entry)) (now (flags .exit)) r ⌝ }
 {
+    let orders = rows::orders();
+    let codes = rows::codes();
     let mut cells = [0u8; 4096];
     let mut lines = [0u8; 64];
     let mut aside = [0u32; 4234];
@@ -168,6 +173,8 @@ fn read_aside(b: Head, cache: &[u16], words: &[u32], map: &mut [u8], flags: &mut
         &mut aside,
         map,
         flags,
+        &orders,
+        &codes,
     )
 }
 

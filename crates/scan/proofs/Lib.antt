@@ -1,3 +1,4 @@
 pub mod Scans
 pub mod Fill
 pub mod LineBefore
+pub mod Keys

@@ -1,7 +1,9 @@
 use Prim.Native.Nat.{_-_, _<_}
 use native.Mathlib.Omega.{arith}
-use lib.ListN.{length, length-set}
-use Rattle.scan.specs.Scan.{placeAt}
+use mathlib.Core.Path.{_≡_, sym}
+use lib.ListN.{length, set, length-set}
+use lib.Seq.{getD-set-same}
+use Rattle.scan.specs.Scan.{placeAt, cellIn}
 use Rattle.scan.proofs.Fill.{below-set}
 use Rattle.read_map.proofs.Ranked.{cell-read}
 use Rattle.read_map.proofs.Lines.{CellsInv, cells-start, cells-fault, cells-turn, cells-end}
@@ -9,10 +11,10 @@ use Rattle.read_map.proofs.read_cells.Statement.{statement}
 use Rattle.read_map.proofs.read_cells.Tie as tie
 
 abbrev Inv-loop : tie.InvT-loop
-Inv-loop words at map₀ s n l place₀ a₀ map place a = CellsInv words at map₀ n s l map place a
+Inv-loop words at map₀ s n l orders codes place₀ before₀ a₀ map place before a = CellsInv words at map₀ n s l map place (before .0) a
 
 abbrev μ-loop : tie.MeasureT-loop
-μ-loop words at map₀ s n l place₀ a₀ map place a = s .len - a
+μ-loop words at map₀ s n l orders codes place₀ before₀ a₀ map place before a = s .len - a
 
 -- the cell at hand stands in the map
 inside : (c : tie.Then1 Inv-loop μ-loop) → let a = c .before .before .before .before .before .args in placeAt (a .s) (a .l)
@@ -29,7 +31,7 @@ read-index-requires : tie.Need-read-index-requires Inv-loop μ-loop
 read-index-requires c κs =
     let s = c .before .before .before .before .before .before in
     let v = c .before .before .before .loop .inv in
-    ((rw (v .size) (s .pre .0 .0), s .pre .0 .1, c .before .if1 .taken), (s .pre .1 .0, s .pre .1 .1, v .below))
+    ((rw (v .size) (s .pre .0 .0), s .pre .0 .1, c .before .if1 .taken), (s .pre .1 .0, s .pre .1 .1, v .below, s .pre .1 .3, v .behind))
 
 place-requires : tie.Need-place-requires Inv-loop μ-loop
 place-requires c κs = omega (
@@ -64,7 +66,7 @@ returns c =
     let a = far .before .before .args in
     let l = c .before .before .before .before .before .before .before .before .before .loop in
     let r = c .before .before .before .before .before .read-index in (
-      cells-fault (a .words .now) (a .at) (a .map .now) (a .n) (a .s) (a .l) (l .map) (l .place) (l .a) (l .inv)
+      cells-fault (a .words .now) (a .at) (a .map .now) (a .n) (a .s) (a .l) (l .map) (l .place) (l .before .0) (l .a) (l .inv)
           (c .before .before .before .before .before .before .before .if1 .taken) (r .result .place) _
           (cell-read (a .words .now) (a .n) (a .s) (a .l) (l .a) (l .place .at) (l .map) (r .result .place) (r .result .index .0) _ (r .ensures .0)
           (c .before .before .before .place .ensures))
@@ -78,17 +80,29 @@ add-a c = omega (arith, c .before .before .before .before .before .before .befor
 loop-less : tie.Need-loop-less Inv-loop μ-loop
 loop-less c = omega (arith, c .before .before .before .before .before .before .before .if1 .taken)
 
+-- the index stands where it was put
+stands : (c : tie.Else2 Inv-loop μ-loop) → let far = c .before .before .before .before .before .before .before .before .before .before in
+    let a = far .before .before .args in
+    let l = c .before .before .before .before .before .before .before .before .before .loop in
+    let i = c .before .before .before .before .before .read-index .result .index .0 in
+    i ≡ cellIn (set (l .map) (c .before .before .before .place .result) i) (a .s) (a .l) (l .a)
+stands c =
+    let l = c .before .before .before .before .before .before .before .before .before .loop in
+    let p = c .before .before .before .place in
+    rw (← p .ensures)
+    (sym (getD-set-same (l .map) (p .result) _ 0 (omega (arith, p .ensures, inside (c .before .before .before .before .before .before .before), l .inv .size))))
+
 loop-again : tie.Need-loop-again Inv-loop μ-loop
 loop-again c =
     let far = c .before .before .before .before .before .before .before .before .before .before in
     let a = far .before .before .args in
     let l = c .before .before .before .before .before .before .before .before .before .loop in
     let r = c .before .before .before .before .before .read-index in
-    cells-turn (a .words .now) (a .at) (a .map .now) (a .n) (a .s) (a .l) (l .map) (l .place) (l .a) (l .inv)
+    cells-turn (a .words .now) (a .at) (a .map .now) (a .n) (a .s) (a .l) (l .map) (l .place) (l .before .0) (l .a) (l .inv)
     (c .before .before .before .before .before .before .before .if1 .taken) (r .result .place) _
     (cell-read (a .words .now) (a .n) (a .s) (a .l) (l .a) (l .place .at) (l .map) (r .result .place) (r .result .index .0) _ (r .ensures .0)
     (c .before .before .before .place .ensures))
-    (c .if2 .left) (length-set (l .map) _ _) (below-set (l .map) (a .n) _ _ (l .inv .below) (r .ensures .1))
+    (c .if2 .left) (length-set (l .map) _ _) (below-set (l .map) (a .n) _ _ (l .inv .below) (r .ensures .1)) _ (stands c)
 
 same-length-2 : tie.Need-same-length-2 Inv-loop μ-loop
 same-length-2 c = c .before .before .loop .inv .size
@@ -97,7 +111,7 @@ returns-2 : tie.Need-returns-2 Inv-loop μ-loop
 returns-2 c =
     let a = c .before .before .before .before .before .args in
     let l = c .before .before .loop in
-    (cells-end (a .words .now) (a .at) (a .map .now) (a .n) (a .s) (a .l) (l .map) (l .place) (l .a) (l .inv) (c .if1 .left), l .inv .below)
+    (cells-end (a .words .now) (a .at) (a .map .now) (a .n) (a .s) (a .l) (l .map) (l .place) (l .before .0) (l .a) (l .inv) (c .if1 .left), l .inv .below)
 
 pub read-cells-spec : {M : Type 1} → statement M
 read-cells-spec =

@@ -6,10 +6,10 @@ use Rattle.read_map.proofs.read_lines.Statement.{statement}
 use Rattle.read_map.proofs.read_lines.Tie as tie
 
 abbrev Inv-loop : tie.InvT-loop
-Inv-loop words at map₀ flags₀ s n place₀ ctx₀ l₀ map flags place ctx l = LinesInv words at map₀ flags₀ n s map flags place ctx l
+Inv-loop words at map₀ flags₀ s n orders codes place₀ ctx₀ l₀ map flags place ctx l = LinesInv words at map₀ flags₀ n s map flags place ctx l
 
 abbrev μ-loop : tie.MeasureT-loop
-μ-loop words at map₀ flags₀ s n place₀ ctx₀ l₀ map flags place ctx l = s .lines - l
+μ-loop words at map₀ flags₀ s n orders codes place₀ ctx₀ l₀ map flags place ctx l = s .lines - l
 
 loop-holds : tie.Need-loop-holds Inv-loop μ-loop
 loop-holds c =
@@ -58,7 +58,7 @@ read-sent-requires c κs =
         flag-later (l .l) _ _ (f .0)
             (c .before .before .before .before .before .take .ensures .below (f .1)),
       ),
-      (s .pre .1 .0, s .pre .1 .1, l .inv .below),
+      (s .pre .1 .0, s .pre .1 .1, l .inv .below, s .pre .1 .3),
     )
 
 same-length-3 : tie.Need-same-length-3 Inv-loop μ-loop

@@ -50,8 +50,9 @@ scan-of-requires c κs = search needs
 read-lines-requires : tie.Need-read-lines-requires
 read-lines-requires c κs =
     let s = c .before .before .before .before .before .before .before .before .before .before in
-    lines-ready (s .args .b) (s .args .cache .now) (s .args .words .now) (length (s .args .map .now)) (length (s .args .flags .now)) (s .pre .0) _ _ _
-    (c .before .before .scan-of .ensures) (s .pre .1 .0) (s .pre .1 .1)
+    let ready = lines-ready (s .args .b) (s .args .cache .now) (s .args .words .now) (length (s .args .map .now)) (length (s .args .flags .now))
+    (s .pre .0) _ _ _ (c .before .before .scan-of .ensures) (s .pre .1 .0) (s .pre .1 .1) in
+    (ready .0, (ready .1 .0, ready .1 .1, ready .1 .2, s .pre .1 .3))
 
 refuse-requires : tie.Need-refuse-requires
 refuse-requires c κs = search needs
