@@ -49,6 +49,12 @@ module _ (w h bd : ℕ) (cache : List ℕ) (p : Palette) (before : List ℕ) whe
         words = rw z a;
       }
 
+  -- a list that was made where the room is enough
+  pub made-there : refusal w h bd (length cache) p ≡ 0 → length list ≤ length before → (after : List ℕ) (r : Listed)
+      → after ≡ written before 0 list → r .number ≡ 0 → r .count ≡ length list → r .«raw_width» ≡ rawWidth list
+      → Lists w h bd cache p before after r
+  made-there e room after r a = whole e room after r (a ∙ written-front before list room)
+
   -- a list that was made aside, as `deliver` answers for it
   pub delivered : refusal w h bd (length cache) p ≡ 0 → (made : Listed)
       → made .number ≡ 0 → made .count ≡ length list → made .«raw_width» ≡ rawWidth list

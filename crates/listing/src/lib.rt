@@ -128,7 +128,7 @@ fn deliver(listed: Listed, aside: &[u32], words: &mut [u32]) -> Listed
     listed
 }
 
-// As `list`, with the room aside for any list lent: an array held here would make long proofs.
+// As `list_aside`, with the room aside for any list lent: an array held here would make long proofs.
 fn list_by(
     width: usize,
     height: usize,
@@ -142,15 +142,11 @@ fn list_by(
     aside: &mut [u32],
     words: &mut [u32],
 ) -> Listed
-    requires { ⌜ 4234 ≤ length (now aside) ⌝ }
+    requires { ⌜ Accepted width height bd (now cache) (paletteOf colors n transposed (now map) (now flags)) ⌝ }
+    requires { ⌜ (n ≤ 8) × (4234 ≤ length (now aside)) ⌝ }
     ensures { λ r. ⌜ Lists width height bd (now (cache .entry))
         (paletteOf colors n transposed (now (map .entry)) (now (flags .entry))) (now (words .entry)) (now (words .exit)) r ⌝ }
 {
-    let cached = cache.len();
-    let number = accept::fault(width, height, bd, colors, n, transposed, map, flags, cached);
-    if number != 0 {
-        return refused(number);
-    }
     let listed = emit_list(
         width,
         height,
@@ -164,6 +160,40 @@ fn list_by(
         aside,
     );
     deliver(listed, aside, words)
+}
+
+// An accepted palette's list, where the words may have too little room for it.
+fn list_aside(
+    width: usize,
+    height: usize,
+    bd: u32,
+    colors: [u16; 8],
+    n: usize,
+    transposed: bool,
+    map: &[u8],
+    flags: &[u8],
+    cache: &[u16],
+    words: &mut [u32],
+) -> Listed
+    requires { ⌜ Accepted width height bd (now cache) (paletteOf colors n transposed (now map) (now flags)) ⌝ }
+    requires { ⌜ n ≤ 8 ⌝ }
+    ensures { λ r. ⌜ Lists width height bd (now (cache .entry))
+        (paletteOf colors n transposed (now (map .entry)) (now (flags .entry))) (now (words .entry)) (now (words .exit)) r ⌝ }
+{
+    let mut aside = [0u32; 4234];
+    list_by(
+        width,
+        height,
+        bd,
+        colors,
+        n,
+        transposed,
+        map,
+        flags,
+        cache,
+        &mut aside,
+        words,
+    )
 }
 
 // Lists a palette's calls from the front, or refuses it and writes nothing.
@@ -182,9 +212,27 @@ pub fn list(
     ensures { λ r. ⌜ Lists width height bd (now (cache .entry))
         (paletteOf colors n transposed (now (map .entry)) (now (flags .entry))) (now (words .entry)) (now (words .exit)) r ⌝ }
 {
+    let cached = cache.len();
+    let number = accept::fault(width, height, bd, colors, n, transposed, map, flags, cached);
+    if number != 0 {
+        return refused(number);
+    }
     // The longest list: 64 by 64 cells with 64 flags, 64 cache bits, 8 colours in 9 calls, and the size.
-    let mut aside = [0u32; 4234];
-    list_by(
+    if words.len() < 4234 {
+        return list_aside(
+            width,
+            height,
+            bd,
+            colors,
+            n,
+            transposed,
+            map,
+            flags,
+            cache,
+            words,
+        );
+    }
+    emit_list(
         width,
         height,
         bd,
@@ -194,7 +242,6 @@ pub fn list(
         map,
         flags,
         cache,
-        &mut aside,
         words,
     )
 }
