@@ -42,8 +42,8 @@ module _ (ws : List ℕ) (at : ℕ) (map₀ : List ℕ) (n : ℕ) (s : Scan) (l 
     cells-more : readUpTo (readCell n s l) (a + 1) map₀ (drop at ws) ≡ told r next ws
     cells-more = up-next (readCell n s l) map₀ (drop at ws) ws a map place r next (v .reads) (v .sure) e
 
-    pub cells-fault : (r .fault ≡ 0 → ⊥) → readUpTo (readCell n s l) (s .len) map₀ (drop at ws) ≡ told r next ws
-    cells-fault h = up-fault (readCell n s l) map₀ (drop at ws) ws (s .len) (a + 1) r next next (omega arith) cells-more h
+    pub cells-fault : (r .fault ≡ 0 → ⊥) → (left : List ℕ) → readUpTo (readCell n s l) (s .len) map₀ (drop at ws) ≡ told r left ws
+    cells-fault h left = up-fault (readCell n s l) map₀ (drop at ws) ws (s .len) (a + 1) r next left (omega arith) cells-more h
 
     pub cells-turn : r .fault ≡ 0 → length next ≡ length map → Below next n → (i : ℕ) → i ≡ cellIn next s l a
         → CellsInv ws at map₀ n s l next r i (a + 1)

@@ -6,9 +6,9 @@ use reader::take;
 use scan::Scan;
 ghost use mathlib.Core.Path.{_≡_};
 ghost use mathlib.Core.Bool.{cond};
-ghost use Prim.Native.Nat.{_+_, _-_, _<_, _≤_};
+ghost use Prim.Native.Nat.{_+_, _-_, _%_, _<_, _≤_};
 ghost use lib.Dec.{eqb};
-ghost use lib.ListN.{length, drop};
+ghost use lib.ListN.{length, getD, drop};
 ghost use Rattle.rows.specs.Rows.{Tables};
 ghost use Rattle.near.specs.Near.{Below};
 ghost use Rattle.scan.specs.Scan.{cellIn, aroundIn, Sound};
@@ -35,7 +35,17 @@ fn read_first(words: &[u32], at: usize, n: usize) -> Found
     }
 }
 
-// The index of another cell: the one at the rank read, in the order of its row.
+// The rank that the word at a place holds if it is the one due: so the row's index need not wait for the test of the word.
+fn rank_in(words: &[u32], at: usize) -> Rank
+    ensures { λ r. ⌜ r .0 ≡ getD (now (words .entry)) at 0 % 8 ⌝ }
+{
+    if at < words.len() {
+        return Rank((words[at] % 8) as u8);
+    }
+    Rank(0)
+}
+
+// The index of another cell: the one at the rank read, in the order of its row. Of no account where the word is at fault.
 fn read_ranked(
     words: &[u32],
     at: usize,
@@ -53,13 +63,13 @@ fn read_ranked(
         × (0 < a → before .0 ≡ cellIn (now map) s l (a - 1)) ⌝ }
     ensures { λ r. ⌜ readRanked n (aroundIn (now (map .entry)) s l a) (drop at (now (words .entry)))
         ≡ told (r .place) (r .index .0) (now (words .entry)) ⌝ }
-    ensures { λ r. ⌜ r .index .0 < n ⌝ }
+    ensures { λ r. ⌜ (r .place .fault ≡ 0 → r .index .0 < n) ⌝ }
 {
     let key = scan::key_after(map, codes, s, l, a, before);
     let taken = take(words, at, 5, ((n - 2) * 5 + key.ctx) as u32, n as u32);
     let place = taken.place;
     Found {
-        index: rows::index_at(orders, key.row, Rank(taken.second as u8)),
+        index: rows::index_at(orders, key.row, rank_in(words, at)),
         place,
     }
 }
@@ -82,7 +92,7 @@ fn read_index(
         × (0 < a → before .0 ≡ cellIn (now map) s l (a - 1)) ⌝ }
     ensures { λ r. ⌜ readIndex n s l a (now (map .entry)) (drop at (now (words .entry)))
         ≡ told (r .place) (r .index .0) (now (words .entry)) ⌝ }
-    ensures { λ r. ⌜ r .index .0 < n ⌝ }
+    ensures { λ r. ⌜ (r .place .fault ≡ 0 → r .index .0 < n) ⌝ }
 {
     if l + a == 0 {
         return read_first(words, at, n);
@@ -105,20 +115,20 @@ fn read_cells(
     requires { ⌜ (2 ≤ n) × (n ≤ 8) × Below (now map) n × Tables (now orders) (now codes) ⌝ }
     ensures { λ r. ⌜ readUpTo (readCell n s l) (s .len) (now (map .entry)) (drop at (now (words .entry)))
         ≡ told r (now (map .exit)) (now (words .entry)) ⌝ }
-    ensures { λ r. ⌜ Below (now (map .exit)) n ⌝ }
+    ensures { λ r. ⌜ (r .fault ≡ 0 → Below (now (map .exit)) n) ⌝ }
 {
     let mut place = Place { at, fault: 0 };
     let mut before = Index(0);
     let mut a: usize = 0;
     while a < s.len {
         let found = read_index(words, place.at, map, s, n, l, a, before, orders, codes);
-        before = found.index;
-        let p = scan::place(s, l, a);
-        map[p] = before.0;
         place = found.place;
         if place.fault != 0 {
             return place;
         }
+        before = found.index;
+        let p = scan::place(s, l, a);
+        map[p] = before.0;
         a += 1;
     }
     place
@@ -140,7 +150,7 @@ fn read_sent(
     requires { ⌜ (2 ≤ n) × (n ≤ 8) × Below (now map) n × Tables (now orders) (now codes) ⌝ }
     ensures { λ r. ⌜ readCells flag n s l (now (map .entry)) (drop at (now (words .entry)))
         ≡ told r (now (map .exit)) (now (words .entry)) ⌝ }
-    ensures { λ r. ⌜ Below (now (map .exit)) n ⌝ }
+    ensures { λ r. ⌜ (r .fault ≡ 0 → Below (now (map .exit)) n) ⌝ }
 {
     if flag == 0 {
         return read_cells(words, at, map, s, n, l, orders, codes);

@@ -1,6 +1,6 @@
 use Prim.Native.Nat.{_-_, _<_}
 use native.Mathlib.Omega.{arith}
-use mathlib.Core.Path.{_≡_, sym}
+use mathlib.Core.Path.{_≡_, refl, sym}
 use lib.ListN.{length, set, length-set}
 use lib.Seq.{getD-set-same}
 use Rattle.scan.specs.Scan.{placeAt, cellIn}
@@ -33,46 +33,26 @@ read-index-requires c κs =
     let v = c .before .before .before .loop .inv in
     ((rw (v .size) (s .pre .0 .0), s .pre .0 .1, c .before .if1 .taken), (s .pre .1 .0, s .pre .1 .1, v .below, s .pre .1 .3, v .behind))
 
-place-requires : tie.Need-place-requires Inv-loop μ-loop
-place-requires c κs = omega (
-  arith,
-  inside
-      (c .before .before .before),
-  c .before .before .before .before .before .before .before .before .pre .0 .0 .small,
-)
-
-slice-write-map : tie.Need-slice-write-map Inv-loop μ-loop
-slice-write-map c = omega (
-  arith,
-  c .place .ensures,
-  inside
-      (c .before .before .before .before),
-  c .before .before .before .before .before .before .loop .inv .size,
-)
-
 same-length : tie.Need-same-length Inv-loop μ-loop
-same-length c =
-    let l = c .before .before .before .before .before .before .before .before .before .loop in
-    omega (
-      arith,
-      length-set (l .map) (c .before .before .before .place .result)
-          (c .before .before .before .before .before .read-index .result .index .0),
-      l .inv .size,
-    )
+same-length c = c .before .before .before .before .before .before .before .loop .inv .size
 
 returns : tie.Need-returns Inv-loop μ-loop
 returns c =
-    let far = c .before .before .before .before .before .before .before .before .before .before in
-    let a = far .before .before .args in
-    let l = c .before .before .before .before .before .before .before .before .before .loop in
-    let r = c .before .before .before .before .before .read-index in (
+    let a = c .before .before .before .before .before .before .before .before .before .before .args in
+    let l = c .before .before .before .before .before .before .before .loop in
+    let r = c .before .before .before .read-index in (
       cells-fault (a .words .now) (a .at) (a .map .now) (a .n) (a .s) (a .l) (l .map) (l .place) (l .before .0) (l .a) (l .inv)
-          (c .before .before .before .before .before .before .before .if1 .taken) (r .result .place) _
-          (cell-read (a .words .now) (a .n) (a .s) (a .l) (l .a) (l .place .at) (l .map) (r .result .place) (r .result .index .0) _ (r .ensures .0)
-          (c .before .before .before .place .ensures))
-          (c .if2 .taken),
-      below-set (l .map) (a .n) _ _ (l .inv .below) (r .ensures .1),
+          (c .before .before .before .before .before .if1 .taken) (r .result .place) _
+          (cell-read (a .words .now) (a .n) (a .s) (a .l) (l .a) (l .place .at) (l .map) (r .result .place) (r .result .index .0) _ (r .ensures .0) refl)
+          (c .if2 .taken) (l .map),
+      λ h. l .inv .below,
     )
+
+place-requires : tie.Need-place-requires Inv-loop μ-loop
+place-requires c κs = omega (arith, inside (c .before .before .before .before .before .before), c .before .before .before .before .before .before .before .before .before .before .before .pre .0 .0 .small)
+
+slice-write-map : tie.Need-slice-write-map Inv-loop μ-loop
+slice-write-map c = omega (arith, c .place2 .ensures, inside (c .before .before .before .before .before .before .before), c .before .before .before .before .before .before .before .before .before .loop .inv .size)
 
 add-a : tie.Need-add-a Inv-loop μ-loop
 add-a c = omega (arith, c .before .before .before .before .before .before .before .if1 .taken)
@@ -81,28 +61,26 @@ loop-less : tie.Need-loop-less Inv-loop μ-loop
 loop-less c = omega (arith, c .before .before .before .before .before .before .before .if1 .taken)
 
 -- the index stands where it was put
-stands : (c : tie.Else2 Inv-loop μ-loop) → let far = c .before .before .before .before .before .before .before .before .before .before in
-    let a = far .before .before .args in
+stands : (c : tie.After-place2 Inv-loop μ-loop) → let a = c .before .before .before .before .before .before .before .before .before .before .before .before .args in
     let l = c .before .before .before .before .before .before .before .before .before .loop in
     let i = c .before .before .before .before .before .read-index .result .index .0 in
-    i ≡ cellIn (set (l .map) (c .before .before .before .place .result) i) (a .s) (a .l) (l .a)
+    i ≡ cellIn (set (l .map) (c .place2 .result) i) (a .s) (a .l) (l .a)
 stands c =
     let l = c .before .before .before .before .before .before .before .before .before .loop in
-    let p = c .before .before .before .place in
-    rw (← p .ensures)
-    (sym (getD-set-same (l .map) (p .result) _ 0 (omega (arith, p .ensures, inside (c .before .before .before .before .before .before .before), l .inv .size))))
+    let p = c .place2 in
+    rw (← p .ensures) (sym (getD-set-same (l .map) (p .result) _ 0 (omega (arith, p .ensures, inside (c .before .before .before .before .before .before .before), l .inv .size))))
 
 loop-again : tie.Need-loop-again Inv-loop μ-loop
 loop-again c =
-    let far = c .before .before .before .before .before .before .before .before .before .before in
-    let a = far .before .before .args in
+    let a = c .before .before .before .before .before .before .before .before .before .before .before .before .args in
     let l = c .before .before .before .before .before .before .before .before .before .loop in
     let r = c .before .before .before .before .before .read-index in
+    let sound = c .before .before .if2 .left in
     cells-turn (a .words .now) (a .at) (a .map .now) (a .n) (a .s) (a .l) (l .map) (l .place) (l .before .0) (l .a) (l .inv)
     (c .before .before .before .before .before .before .before .if1 .taken) (r .result .place) _
     (cell-read (a .words .now) (a .n) (a .s) (a .l) (l .a) (l .place .at) (l .map) (r .result .place) (r .result .index .0) _ (r .ensures .0)
-    (c .before .before .before .place .ensures))
-    (c .if2 .left) (length-set (l .map) _ _) (below-set (l .map) (a .n) _ _ (l .inv .below) (r .ensures .1)) _ (stands c)
+    (c .place2 .ensures))
+    sound (length-set (l .map) _ _) (below-set (l .map) (a .n) _ _ (l .inv .below) (r .ensures .1 sound)) _ (stands c)
 
 same-length-2 : tie.Need-same-length-2 Inv-loop μ-loop
 same-length-2 c = c .before .before .loop .inv .size
@@ -111,7 +89,7 @@ returns-2 : tie.Need-returns-2 Inv-loop μ-loop
 returns-2 c =
     let a = c .before .before .before .before .before .args in
     let l = c .before .before .loop in
-    (cells-end (a .words .now) (a .at) (a .map .now) (a .n) (a .s) (a .l) (l .map) (l .place) (l .before .0) (l .a) (l .inv) (c .if1 .left), l .inv .below)
+    (cells-end (a .words .now) (a .at) (a .map .now) (a .n) (a .s) (a .l) (l .map) (l .place) (l .before .0) (l .a) (l .inv) (c .if1 .left), λ h. l .inv .below)
 
 pub read-cells-spec : {M : Type 1} → statement M
 read-cells-spec =
@@ -121,10 +99,10 @@ read-cells-spec =
     μ-loop
     loop-holds
     read-index-requires
-    place-requires
-    slice-write-map
     same-length
     returns
+    place-requires
+    slice-write-map
     add-a
     loop-less
     loop-again

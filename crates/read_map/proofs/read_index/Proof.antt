@@ -15,7 +15,7 @@ returns : tie.Need-returns
 returns c =
     let a = c .before .before .before .before .args in
     let e = c .read-first .ensures in
-    (index-first (a .map .now) (a .s) (a .n) (a .l) (a .a) _ (c .before .if1 .taken) ∙ e .0, e .1)
+    (index-first (a .map .now) (a .s) (a .n) (a .l) (a .a) _ (c .before .if1 .taken) ∙ e .0, λ h. e .1)
 
 read-ranked-requires : tie.Need-read-ranked-requires
 read-ranked-requires c κs =

@@ -49,23 +49,20 @@ cast-take-2 c = search needs
 take-requires : tie.Need-take-requires
 take-requires c κs = (omega arith, omega (arith, context (c .before), c .before .before .before .before .pre .1 .1))
 
-cast-t20 : tie.Need-cast-t20
-cast-t20 c =
-    let s = c .before .before .before .before .before .before .before in
-    omega (arith, c .before .before .take .ensures .below (omega (arith, s .pre .1 .0)), s .pre .1 .1)
+rank-in-requires : tie.Need-rank-in-requires
+rank-in-requires c κs = search needs
 
 index-at-requires : tie.Need-index-at-requires
 index-at-requires c κs =
     let s = c .before .before .before .before .before .before .before in
-    let rank = c .before .before .take .ensures .below (omega (arith, s .pre .1 .0)) in
-    (s .pre .1 .3 .order, known (c .before .before .before .before) .fits .0, omega (arith, rank, s .pre .1 .1))
+    (s .pre .1 .3 .order, known (c .before .before .before .before) .fits .0, omega (arith, c .rank-in .ensures))
 
 returns : tie.Need-returns
 returns c =
     let s = c .before .before .before .before .before .before .before .before in
     let a = s .args in
-    ranked-read (a .n) (s .pre .1 .0) (s .pre .1 .1) _ _ (known (c .before .before .before .before .before))
-    (a .words .now) (a .at) _ _ (c .before .before .before .take .ensures) (c .index-at .ensures)
+    ranked-read (a .n) (s .pre .1 .1) _ _ (known (c .before .before .before .before .before))
+    (a .words .now) (a .at) _ _ (c .before .before .before .take .ensures) (rw (c .before .rank-in .ensures) at (c .index-at .ensures))
 
 pub read-ranked-spec : {M : Type 1} → statement M
 read-ranked-spec =
@@ -78,6 +75,6 @@ read-ranked-spec =
     cast-take
     cast-take-2
     take-requires
-    cast-t20
+    rank-in-requires
     index-at-requires
     returns)
