@@ -39,7 +39,7 @@ fn read_orient(words: &[u32], at: usize, w: usize, h: usize) -> Taken
     }
 }
 
-// Whether the first `count` words are the whole list.
+// Whether the first `count` words are the whole list. The loop goes to the end, so that many words are compared at once.
 fn same_words(aside: &[u32], count: usize, words: &[u32]) -> bool
     requires { ⌜ count ≤ length (now aside) ⌝ }
     ensures { λ r. ⌜ r ≡ sameList (take count (now (aside .entry))) (now (words .entry)) ⌝ }
@@ -47,14 +47,13 @@ fn same_words(aside: &[u32], count: usize, words: &[u32]) -> bool
     if count != words.len() {
         return false;
     }
+    let mut same = true;
     let mut i: usize = 0;
     while i < count {
-        if aside[i] != words[i] {
-            return false;
-        }
+        same = same & (aside[i] == words[i]);
         i += 1;
     }
-    true
+    same
 }
 
 // The numbers 1, 2, 13 and 7, or 0.

@@ -1,19 +1,29 @@
-use mathlib.Core.Path.{_≡_, refl, sym, _∙_}
+use mathlib.Core.Path.{_≡_, refl, sym, ap, _∙_}
+use mathlib.Core.Bool.{Bool, true, false, _&&_}
 use Prim.Native.Nat.{_-_, _≤_}
 use native.Mathlib.Omega.{arith}
 use borrow.Author.Needs.{needs}
 use lib.ListN.{take, drop}
 use lib.Seq.{length-take-le}
 use Rattle.lists.specs.Same.{sameList}
-use Rattle.lists.proofs.Same.{same-none, same-apart, same-next, same-split, same-end}
+use Rattle.lists.proofs.Same.{same-none, same-split, same-end}
 use Rattle.reading.proofs.same_words.Statement.{statement}
 use Rattle.reading.proofs.same_words.Tie as tie
 
 abbrev Inv-loop : tie.InvT-loop
-Inv-loop aside count words i₀ i = (i ≤ count) × (sameList (drop i (take count aside)) (drop i words) ≡ sameList (take count aside) words)
+Inv-loop aside count words same₀ i₀ same i =
+    (i ≤ count) × (same && sameList (drop i (take count aside)) (drop i words) ≡ sameList (take count aside) words)
 
 abbrev μ-loop : tie.MeasureT-loop
-μ-loop aside count words i₀ i = count - i
+μ-loop aside count words same₀ i₀ same i = count - i
+
+and-assoc : (a b c : Bool) → (a && b) && c ≡ a && (b && c)
+and-assoc true b c = refl
+and-assoc false b c = refl
+
+and-true : (a : Bool) → a ≡ a && true
+and-true true = refl
+and-true false = refl
 
 returns : tie.Need-returns Inv-loop μ-loop
 returns c =
@@ -24,25 +34,17 @@ returns c =
 loop-holds : tie.Need-loop-holds Inv-loop μ-loop
 loop-holds c = (search needs, refl)
 
-mul-if2 : tie.Need-mul-if2 Inv-loop μ-loop
-mul-if2 c = search needs
+mul-same : tie.Need-mul-same Inv-loop μ-loop
+mul-same c = search needs
 
-shared-slice-read-if2 : tie.Need-shared-slice-read-if2 Inv-loop μ-loop
-shared-slice-read-if2 c = search needs
+shared-slice-read-same : tie.Need-shared-slice-read-same Inv-loop μ-loop
+shared-slice-read-same c = search needs
 
-mul-if2-2 : tie.Need-mul-if2-2 Inv-loop μ-loop
-mul-if2-2 c = search needs
+mul-same-2 : tie.Need-mul-same-2 Inv-loop μ-loop
+mul-same-2 c = search needs
 
-shared-slice-read-if2-2 : tie.Need-shared-slice-read-if2-2 Inv-loop μ-loop
-shared-slice-read-if2-2 c = omega (arith, c .before .before .loop-test .taken, c .before .before .before .before .if1 .left)
-
-returns-2 : tie.Need-returns-2 Inv-loop μ-loop
-returns-2 c =
-    let a = c .before .before .before .before .before .before .args in
-    let l = c .before .before .before .before .loop in
-    same-apart _ _ _ _ (λ e. omega (arith, e, c .if2 .taken)) ∙ sym (same-split (a .aside .now) (a .words .now) (a .count) (l .i)
-    (c .before .before .before .before .before .before .pre) (c .before .before .before .before .before .if1 .left)
-    (c .before .before .before .loop-test .taken)) ∙ l .inv .1
+shared-slice-read-same-2 : tie.Need-shared-slice-read-same-2 Inv-loop μ-loop
+shared-slice-read-same-2 c = omega (arith, c .before .before .loop-test .taken, c .before .before .before .before .if1 .left)
 
 add-i : tie.Need-add-i Inv-loop μ-loop
 add-i c = search needs
@@ -51,21 +53,22 @@ loop-less : tie.Need-loop-less Inv-loop μ-loop
 loop-less c = search needs
 
 loop-again : tie.Need-loop-again Inv-loop μ-loop
+unfolding sameList
 loop-again c =
-    let a = c .before .before .before .before .before .before .args in
-    let l = c .before .before .before .before .loop in (
-      search needs,
-      sym (same-next _ _ _ _ (c .if2 .left)) ∙ sym
-          (same-split (a .aside .now) (a .words .now) (a .count) (l .i) (c .before .before .before .before .before .before .pre)
-          (c .before .before .before .before .before .if1 .left) (c .before .before .before .loop-test .taken)) ∙ l .inv .1,
-    )
+    let s = c .before .before .before .before .before in
+    let a = s .args in
+    let l = c .before .before .before .loop in
+    let split = same-split (a .aside .now) (a .words .now) (a .count) (l .i) (s .pre) (c .before .before .before .before .if1 .left)
+    (c .before .before .loop-test .taken) in
+    (search needs, and-assoc (l .same) _ _ ∙ sym (ap (λ (b : Bool). l .same && b) split) ∙ l .inv .1)
 
-returns-3 : tie.Need-returns-3 Inv-loop μ-loop
-returns-3 c =
-    let a = c .before .before .before .args in
+returns-2 : tie.Need-returns-2 Inv-loop μ-loop
+returns-2 c =
+    let s = c .before .before .before in
+    let a = s .args in
     let l = c .before .loop in
-    sym (same-end (a .aside .now) (a .words .now) (a .count) (l .i) (c .before .before .before .pre) (c .before .before .if1 .left)
-    (c .loop-test .left)) ∙ l .inv .1
+    let end = same-end (a .aside .now) (a .words .now) (a .count) (l .i) (s .pre) (c .before .before .if1 .left) (c .loop-test .left) in
+    and-true (l .same) ∙ sym (ap (λ (b : Bool). l .same && b) end) ∙ l .inv .1
 
 pub same-words-spec : {M : Type 1} → statement M
 same-words-spec =
@@ -75,12 +78,11 @@ same-words-spec =
     μ-loop
     returns
     loop-holds
-    mul-if2
-    shared-slice-read-if2
-    mul-if2-2
-    shared-slice-read-if2-2
-    returns-2
+    mul-same
+    shared-slice-read-same
+    mul-same-2
+    shared-slice-read-same-2
     add-i
     loop-less
     loop-again
-    returns-3)
+    returns-2)
