@@ -146,15 +146,15 @@ fn the_copy_asks_where_the_map_search_does() {
     let map_search = source("../crates/map_search/src/lib.rt");
     let copy = source("../crates/asking/src/main.rt");
     // The map search's other asking is that of a cell tried by itself.
-    assert_eq!(map_search.matches("near_cell(").count(), 2);
-    assert_eq!(copy.matches("near_cell(").count(), 1);
-    for text in [body(&map_search, "fn first_near("), body(&copy, "fn ask(")] {
+    assert_eq!(map_search.matches("key_cell(").count(), 2);
+    assert_eq!(copy.matches("key_cell(").count(), 1);
+    for text in [body(&map_search, "fn first_key("), body(&copy, "fn ask(")] {
         let (first, later) = text.split_once("    }\n").expect("the first line returns");
         assert!(first
             .trim_start()
             .starts_with("if l == 0 {\n        return "));
-        assert!(!first.contains("near_cell("));
-        assert!(later.contains("scan::near_cell(map, s, l, 0)"));
+        assert!(!first.contains("key_cell("));
+        assert!(later.contains("scan::key_cell(map, codes, s, l, 0)"));
     }
 }
 
