@@ -1,6 +1,6 @@
 -- The neighbours by their distance from the cell. Assumes nothing.
 use mathlib.Core.Path.{_≡_, refl}
-use mathlib.Core.List.{List, [], _∷_}
+use mathlib.Core.List.{List}
 use Prim.Native.Nat.{ℕ, zero, suc, _+_, _-_, _*_, _<_, _≤_}
 use native.Mathlib.Nat.{suc-mul, mul-le-mul-right}
 use native.Mathlib.Omega.{arith}
@@ -10,18 +10,6 @@ use Rattle.context.specs.Order.{byThree, around}
 
 -- the neighbours by their distance from the cell
 module _ (map : List ℕ) (w : ℕ) where
-  pub around-top : (y x : ℕ) → y ≡ 0 → 0 < x → around byThree map w y x ≡ record { ctx = 0; firsts = getD map (y * w + x - 1) 0 ∷ [] }
-  unfolding around cell
-  around-top (suc y) x e h = absurd (omega arith)
-  around-top zero zero e h = absurd (omega arith)
-  around-top zero (suc x) e h = let f : 0 * w + suc x - 1 ≡ 0 * w + x = omega arith in rw f refl
-
-  pub around-side : (y x : ℕ) → 0 < y → x ≡ 0 → around byThree map w y x ≡ record { ctx = 0; firsts = getD map (y * w + x - w) 0 ∷ [] }
-  unfolding around cell
-  around-side zero x h e = absurd (omega arith)
-  around-side (suc y) (suc x) h e = absurd (omega arith)
-  around-side (suc y) zero h e = let f : suc y * w + 0 - w ≡ y * w + 0 = omega (arith, suc-mul y w) in rw f refl
-
   pub around-three : (y x : ℕ) → 0 < y → 0 < x
       → around byThree map w y x ≡ byThree (getD map (y * w + x - 1) 0) (getD map (y * w + x - w) 0) (getD map (y * w + x - w - 1) 0)
   unfolding around cell
