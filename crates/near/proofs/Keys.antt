@@ -1,6 +1,6 @@
 -- The row of a cell: by the places beside it, and that it gives the cell's order and ranks. Assumes nothing.
 use Prim.Native.Nat.{ℕ, zero, suc, _+_, _-_, _*_, _<_, _≤_}
-use mathlib.Core.Path.{_≡_, refl, sym, ap, _∙_}
+use mathlib.Core.Path.{_≡_, refl, ap, _∙_}
 use mathlib.Core.List.{List, [], _∷_, _++_}
 use native.Mathlib.Nat.{suc-mul}
 use native.Mathlib.Omega.{arith}
@@ -9,9 +9,8 @@ use borrow.Author.Tests.{eq-eqb, ne-eqb}
 use Rattle.lists.specs.Counted.{elem}
 use Rattle.context.specs.Map.{cell}
 use Rattle.context.specs.Order.{Around, choose, byThree, around, others, orderOf, place, rankOf}
-use Rattle.context.proofs.Around.{around-ctx}
 use Rattle.context.proofs.Order.{order-below, rank-below}
-use Rattle.rows.specs.Rows.{rowOf, aroundRow, orderRow, Fits}
+use Rattle.rows.specs.Rows.{rowOf, aroundRow, orderRow}
 use Rattle.rows.proofs.Laws.{row-ok, row-around, row-fits, order-row, rank-row}
 use Rattle.near.specs.declared.Key.{Key}
 use Rattle.near.specs.Near.{edgeKey, threeKey, keyAt, Below, Keyed}

@@ -4,7 +4,6 @@ use context::Index;
 ghost use mathlib.Core.Path.{_≡_};
 ghost use Prim.Native.Nat.{_+_, _*_, _<_};
 ghost use lib.ListN.{length};
-ghost use Rattle.context.specs.Order.{byThree};
 ghost use Rattle.rows.specs.Rows.{codeTable};
 ghost use Rattle.near.specs.Near.{edgeKey, threeKey, keyAt, Below};
 

@@ -1,8 +1,4 @@
-use Prim.Native.Nat.{ℕ}
-use mathlib.Core.Path.{_≡_, refl, ap, _∙_}
-use native.Mathlib.Omega.{arith}
-use Rattle.context.specs.Order.{Around, byThree}
-use Rattle.rows.specs.Rows.{rowOf, aroundRow}
+use mathlib.Core.Path.{refl}
 use Rattle.rows.proofs.Laws.{row-around, row-parts}
 use borrow.Author.Needs.{needs}
 use Rattle.near.proofs.three_key.Statement.{statement}
