@@ -1,18 +1,18 @@
 -- Where all other indices are farther than the nearest one and the highest cost together, it is chosen. Assumes nothing.
 use Prim.Native.Nat.{ℕ, _+_, _-_, _*_, _^_, _/_, _%_, _≤_, _<_}
 use mathlib.Core.Bool.{Bool, true, false}
-use mathlib.Core.Path.{_≡_, refl, sym, ap, _∙_}
+use mathlib.Core.Path.{_≡_, refl, ap, _∙_}
 use mathlib.Core.List.{List}
-use mathlib.Core.Logic.{_⊎_, inl, inr}
+use mathlib.Core.Logic.{inl, inr}
 use native.Mathlib.Omega.{arith}
-use lib.Dec.{T, eqb, leb}
-use lib.ListN.{getD, length}
+use lib.Dec.{T}
+use lib.ListN.{getD}
 use lib.Ieee.{Float, nan, binary32, add, sub, mul, lt, fits}
 use lib.Ieee.Fits.{mul-fits, nan-fits}
 use borrow.Author.Tests.{lt-leb, ne-eqb}
 use Rattle.lists.specs.Counted.{allBelow}
 use Rattle.lists.proofs.Counted.{allBelow-at}
-use Rattle.ieee.specs.Bounds.{NotNeg, Within}
+use Rattle.ieee.specs.Bounds.{NotNeg}
 use Rattle.ieee.proofs.Grows.{Grows, grows-of-le}
 use Rattle.ieee.proofs.Signs.{add-not-neg, mul-not-neg, square-not-neg, not-neg-of-test, zero-bits}
 use Rattle.ieee.proofs.Monotone.{mul-grows}
@@ -20,8 +20,7 @@ use Rattle.context.specs.Order.{rankOf}
 use Rattle.context.proofs.Order.{order-distinct, order-has}
 use Rattle.rows.specs.Rows.{aroundRow, rowOrder, Fits}
 use Rattle.rows.proofs.Laws.{row-ok, rank-row}
-use Rattle.cells.specs.declared.Cell.{Cell}
-use Rattle.cells.specs.Cell.{square, eight, squaresOf, ratesOf, pickAt, cellBy, cellOf}
+use Rattle.cells.specs.Cell.{square, squaresOf, ratesOf, cellOf}
 use Rattle.cells.specs.Sure.{Capped, Priced, Skips, passedBy, soleBy}
 use Rattle.cells.proofs.Eight.{eight-at, eight-each}
 use Rattle.cells.proofs.Order.{order-under, order-few}

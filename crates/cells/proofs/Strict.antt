@@ -1,7 +1,7 @@
 -- A strict order by size of floats that are not negative, and how it goes with `Grows`. Assumes nothing.
 use Prim.Native.Nat.{ℕ, _+_, _*_, _≤_, _<_}
 use mathlib.Core.Path.{_≡_, refl, sym, _∙_}
-use mathlib.Core.Bool.{Bool, true, false, true≢false, false≢true}
+use mathlib.Core.Bool.{true, false, true≢false, false≢true}
 use mathlib.Core.Logic.{inl, inr}
 use native.Mathlib.Nat.{zero-mul}
 use native.Mathlib.Omega.{arith}

@@ -39,7 +39,8 @@ returns c =
     c .sole-cell .ensures
     ∙ rw (dists, c .before .before .before .before .before .before .before .before .before .rates .ensures)
     (sole-cell (a .x) (now (a .colors)) (now (a .costs)) (a .n) (a .ctx) (a .lambda) (a .cap) (s .pre .1 .0) (s .pre .1 .1) (s .pre .0 .2)
-    (s .pre .1 .3) (s .pre .1 .4 .capped) (c .before .before .before .before .before .before .before .guess .result) (a .row) (c .before .before .before .before .before .before .if1 .taken) (s .pre .0 .1) (now (a .skips)) (s .pre .1 .4 .skipped) (rw dists at alone))
+    (s .pre .1 .3) (s .pre .1 .4 .capped) (c .before .before .before .before .before .before .before .guess .result) (a .row)
+    (c .before .before .before .before .before .before .if1 .taken) (s .pre .0 .1) (now (a .skips)) (s .pre .1 .4 .skipped) (rw dists at alone))
 
 choose-cell-requires : tie.Need-choose-cell-requires
 choose-cell-requires c κs = search needs
