@@ -1,6 +1,6 @@
 -- The word of a cell by its row, and by its key where it has three neighbours. Assumes nothing.
 use Prim.Native.Nat.{ℕ, zero, suc, _+_, _-_, _*_, _/_, _%_, _≤_, _<_}
-use mathlib.Core.Path.{_≡_, refl, sym, ap, _∙_}
+use mathlib.Core.Path.{_≡_, refl, _∙_}
 use mathlib.Core.Bool.{Bool, true, false, _&&_}
 use mathlib.Core.List.{List, [], _∷_}
 use native.Mathlib.Nat.{suc-mul}
@@ -13,7 +13,7 @@ use Rattle.context.specs.Map.{cell, rowAt, colAt}
 use Rattle.context.specs.Order.{Around, byThree, around, rankOf}
 use Rattle.context.proofs.Around.{three-ctx, around-ctx}
 use Rattle.context.proofs.Places.{around-three, row-above}
-use Rattle.rows.specs.Rows.{rowOf, aroundRow, codeTable, codeAt}
+use Rattle.rows.specs.Rows.{rowOf, aroundRow}
 use Rattle.rows.proofs.Laws.{row-parts, row-around, code-in}
 use Rattle.near.specs.Near.{threeKey, keyAt, Below, Keyed}
 use Rattle.near.proofs.Keys.{three-keyed, keyed, key-rank, key-rank-below}

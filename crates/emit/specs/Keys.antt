@@ -4,7 +4,7 @@ use Prim.Native.Nat.{ℕ, _+_, _-_, _*_, _/_, _%_, _≤_, _<_}
 use mathlib.Core.Path.{_≡_}
 use mathlib.Core.Bool.{Bool}
 use mathlib.Core.List.{List}
-use lib.ListN.{length, getD}
+use lib.ListN.{getD}
 use Rattle.context.specs.Map.{rowAt, colAt}
 use Rattle.rows.specs.Rows.{rowOf, codeTable}
 use Rattle.literals.specs.Words.{word}

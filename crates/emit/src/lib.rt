@@ -459,7 +459,7 @@ fn emit_orientation(transposed: bool, w: usize, h: usize, out: &mut [u32], at: u
     at
 }
 
-// As `emit_map`, with both tables lent.
+// As `emit_map`, with the codes and their words lent.
 fn emit_by(
     map: &[u8],
     codes: &[u8; 4096],

@@ -1,6 +1,6 @@
 use Prim.Native.Nat.{_+_, _*_, _<_}
 use native.Mathlib.Omega.{arith}
-use mathlib.Core.Path.{_≡_, refl, sym, _∙_}
+use mathlib.Core.Path.{sym, _∙_}
 use borrow.Author.Needs.{needs}
 use Rattle.near.specs.Near.{Below}
 use Rattle.emit.proofs.Keys.{below-all, corner-word, row-low, ctx-low, rank-low, word-by-row}
@@ -95,7 +95,8 @@ returns-2 c =
     let key = c .before .before .before .before .key-at .ensures in
     let corner = c .before .before .before .before .before .before .is-corner .ensures in
     c .call2 .ensures ∙ rw (rank, index, key)
-    (word-by-row (a .map .now) (a .w) (a .n) (a .y) (a .x) (s .pre .0 .0) (s .pre .0 .1) (low s) (sym corner ∙ c .before .before .before .before .before .if1 .left))
+    (word-by-row (a .map .now) (a .w) (a .n) (a .y) (a .x) (s .pre .0 .0) (s .pre .0 .1) (low s)
+    (sym corner ∙ c .before .before .before .before .before .if1 .left))
 
 pub cell-word-spec : {M : Type 1} → statement M
 cell-word-spec =
