@@ -1,6 +1,5 @@
-use Prim.Native.Nat.{ℕ, _≤_}
+use Prim.Native.Nat.{_≤_}
 use mathlib.Core.Path.{_≡_, sym, _∙_}
-use mathlib.Core.List.{List}
 use native.Mathlib.Omega.{arith}
 use lib.ListN.{length}
 use borrow.Author.Needs.{needs}
@@ -10,7 +9,6 @@ use Rattle.accept.specs.Palette.{Palette, paletteOf}
 use Rattle.accept.specs.Accepted.{refusal, Accepted}
 use Rattle.accept.proofs.Accepted.{accepted-of-zero, facts}
 use Rattle.accept.proofs.Levels.{length-given}
-use Rattle.listing.specs.Listing.{callList}
 use Rattle.listing.proofs.Answers.{faulty, made-there}
 use Rattle.listing.proofs.Length.{list-few}
 use Rattle.listing.proofs.list.Statement.{statement}

@@ -5,7 +5,7 @@ use native.Mathlib.Omega.{arith}
 use lib.ListN.{length, take}
 use borrow.Author.Needs.{needs}
 use Rattle.lists.proofs.Written.{written-take}
-use Rattle.accept.specs.Palette.{Palette, paletteOf}
+use Rattle.accept.specs.Palette.{paletteOf}
 use Rattle.accept.proofs.Accepted.{zero-of-accepted}
 use Rattle.listing.specs.Listing.{callList}
 use Rattle.listing.proofs.Answers.{delivered}
