@@ -8,11 +8,16 @@ use Rattle.asking.proofs.count_size.Statement.{statement}
 use Rattle.asking.proofs.count_size.Tie as tie
 
 -- what is made here
-lent : (c : tie.After-skips-of)
-    → Tables (c .before .before .before .before .before .before .before .orders .result) (c .before .before .before .before .before .before .codes .result)
-    × Sized (now (c .before .before .before .before .before .before .before .before .before .before .args .costs)) (c .before .before .before .before .before .before .before .before .before .before .args .z) (c .before .before .before .before .values .result) (c .before .cap-of .result) (c .skips-of .result)
+lent : (c : tie.After-skips-of) → let made = c .before .before .before .before in
+    let tables = made .before .before in
+    let a = tables .before .before .before .before .args in
+    Tables (tables .before .orders .result) (tables .codes .result)
+    × Sized (now (a .costs)) (a .z) (made .values .result) (c .before .cap-of .result) (c .skips-of .result)
 lent c = (
-  record { order = c .before .before .before .before .before .before .before .orders .ensures; code = c .before .before .before .before .before .before .codes .ensures },
+  record {
+    order = c .before .before .before .before .before .before .before .orders .ensures;
+    code = c .before .before .before .before .before .before .codes .ensures;
+  },
   record { values = c .before .before .before .before .values .ensures; sure = record { capped = c .before .cap-of .ensures; skipped = c .skips-of .ensures } },
 )
 
@@ -49,8 +54,9 @@ returns c = search needs
 
 count-scan-requires-2 : tie.Need-count-scan-requires-2
 count-scan-requires-2 c κs =
-    let p = c .before .before .before .before .before .before .before .before .before .before .before .before .before .before .before .before .before .before .before .before .before .before .before .pre in
-    (p .0, p .1, p .2, lent (c .before .before .before .before .before .before .before .before .before .before .before .before .before) .0, lent (c .before .before .before .before .before .before .before .before .before .before .before .before .before) .1)
+    let d = c .before .before .before .before .before .before .before .before .before .before .before .before .before in
+    let p = d .before .before .before .before .before .before .before .before .before .before .pre in
+    (p .0, p .1, p .2, lent d .0, lent d .1)
 
 returns-2 : tie.Need-returns-2
 returns-2 c = search needs
