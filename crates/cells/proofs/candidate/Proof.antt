@@ -1,6 +1,8 @@
 use native.Mathlib.Omega.{arith}
 use mathlib.Core.Path.{refl}
-use Rattle.rows.specs.Rows.{aroundRow}
+use Prim.Native.Nat.{ℕ, _<_}
+use lib.ListN.{getD}
+use Rattle.rows.specs.Rows.{aroundRow, orderRow}
 use Rattle.rows.proofs.Laws.{row-ok, eight-fits}
 use Rattle.context.proofs.Order.{order-below}
 use borrow.Author.Needs.{needs}
@@ -19,12 +21,14 @@ cast-index c = search needs
 mul-t11 : tie.Need-mul-t11
 mul-t11 c = search needs
 
+-- in row 0 too, so that an edit to that row is refused at the answer
 element-copy-out-t14 : tie.Need-element-copy-out-t14
 element-copy-out-t14 c =
     let s = c .before .before in
     let a = s .args in
-    let k = aroundRow (a .row) in
-    omega (arith, c .before .index-at .ensures, order-below k 8 (row-ok (a .row) 8 (eight-fits (a .row) (s .pre .1))) (a .q) (s .pre .2))
+    let low : (k : ℕ) → k < 512 → getD (orderRow k) (a .q) 0 < 8 =
+    λ k h. order-below (aroundRow k) 8 (row-ok k 8 (eight-fits k h)) (a .q) (s .pre .2) in
+    omega (arith, c .before .index-at .ensures, low (a .row) (s .pre .1), low 0 (omega arith))
 
 mul-t15 : tie.Need-mul-t15
 mul-t15 c = search needs

@@ -23,10 +23,12 @@ cast-t14 c = search needs
 mul-t15 : tie.Need-mul-t15
 mul-t15 c = search needs
 
+-- in row 0 too, so that an edit to that row is refused at the answer
 element-copy-out-t18 : tie.Need-element-copy-out-t18
 element-copy-out-t18 c =
     let s = c .before .before .before in
-    omega (arith, c .before .before .rank-at .ensures, rank-eight (s .args .row) (s .args .b) (s .pre .1) (s .pre .2))
+    let zero = rank-eight 0 (s .args .b) (omega arith) (s .pre .2) in
+    omega (arith, c .before .before .rank-at .ensures, rank-eight (s .args .row) (s .args .b) (s .pre .1) (s .pre .2), zero)
 
 cast-t8-2 : tie.Need-cast-t8-2
 cast-t8-2 c = search needs

@@ -23,10 +23,12 @@ cast-t15 c = search needs
 mul-t16 : tie.Need-mul-t16
 mul-t16 c = search needs
 
+-- in row 0 too, so that an edit to that row is refused at the answer
 element-copy-out-t19 : tie.Need-element-copy-out-t19
 element-copy-out-t19 c =
     let s = c .before .before .before in
-    omega (arith, c .before .before .rank-at .ensures, rank-eight (s .args .k) (s .args .c) (s .pre .1) (s .pre .0))
+    let zero = rank-eight 0 (s .args .c) (omega arith) (s .pre .0) in
+    omega (arith, c .before .before .rank-at .ensures, rank-eight (s .args .k) (s .args .c) (s .pre .1) (s .pre .0), zero)
 
 cast-t9-2 : tie.Need-cast-t9-2
 cast-t9-2 c = search needs
