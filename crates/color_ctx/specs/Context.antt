@@ -46,7 +46,7 @@ pub record Undo (n : ℕ) (order ranks : List ℕ) : Type 0 where
   pub rank : (r : ℕ) → r < n → (getD order r 0 < n) × (getD ranks (getD order r 0) 0 ≡ r)
   pub zeros : (k : ℕ) → n ≤ k → (getD order k 0 ≡ 0) × (getD ranks k 0 ≡ 0)
 
--- so of each answer with number 0; the only other number is 18, with zeros
+-- so of each answer with number 0; the only other number is 18, with zeros, written out: this holds of no other `refused`
 pub record Answers (n : ℕ) (c : Context) : Type 0 where
   pub undo : c .number ≡ 0 → Undo n (c .order) (c .ranks)
-  pub zeros : (c .number ≡ 0 → ⊥) → c ≡ refused
+  pub zeros : (c .number ≡ 0 → ⊥) → c ≡ record { number = 18; ctx = 0; order = replicate 8 0; ranks = replicate 8 0 }
