@@ -8,7 +8,7 @@ use native.Mathlib.Omega.{arith}
 use lib.Dec.{eqb}
 use lib.ListN.{length, getD, take, drop, drop-of-length-le}
 use lib.Seq.{drop-cons}
-use borrow.Author.Tests.{eq-eqb, ne-eqb, eqb-true}
+use borrow.Author.Tests.{eq-eqb, eqb-true}
 use Rattle.lists.specs.Same.{sameList}
 use Rattle.lists.proofs.Choice.{and-l, and-r}
 use Rattle.lists.proofs.Rest.{next, done}
@@ -37,14 +37,6 @@ same-none (x ∷ xs) (y ∷ ys) h =
     let deeper : false ≡ sameList xs ys = same-none xs ys (λ e. h (ap suc e)) in
     let go : (b : Bool) → false ≡ b && sameList xs ys = elim [ true ↦ deeper | false ↦ refl ] in
     go (eqb x y)
-
-pub same-apart : (x y : ℕ) (xs ys : List ℕ) → (x ≡ y → ⊥) → false ≡ sameList (x ∷ xs) (y ∷ ys)
-unfolding sameList
-same-apart x y xs ys h = rw (ne-eqb x y h) refl
-
-pub same-next : (x y : ℕ) (xs ys : List ℕ) → x ≡ y → sameList (x ∷ xs) (y ∷ ys) ≡ sameList xs ys
-unfolding sameList
-same-next x y xs ys h = rw (eq-eqb x y h) refl
 
 module _ (aside ws : List ℕ) (count i : ℕ) (fits : count ≤ length aside) (all : count ≡ length ws) where
   pub same-split : i < count

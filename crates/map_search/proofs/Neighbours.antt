@@ -27,7 +27,8 @@ module _ (m : List ℕ) (s : Scan) (l a : ℕ) where
     pub key-cell : Keyed (aroundIn m s l a) n (keyIn m s l a)
     key-cell = keyed m (s .w) (rowAt (s .transposed) l a) (colAt (s .transposed) l a) n below some most
 
-    pub order-in : All (λ i. i < n) (orderOf (aroundIn m s l a) n) × (length (orderOf (aroundIn m s l a) n) ≤ 8) × (0 < length (orderOf (aroundIn m s l a) n))
+    pub order-in : All (λ i. i < n) (orderOf (aroundIn m s l a) n) × (length (orderOf (aroundIn m s l a) n) ≤ 8)
+        × (0 < length (orderOf (aroundIn m s l a) n))
     order-in =
         let k = keyIn m s l a .row in
         let ok = row-ok k n (key-cell .fits) in

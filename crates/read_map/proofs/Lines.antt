@@ -22,7 +22,8 @@ use Rattle.read_map.specs.Map.{readIndex, readCell, readCells, Lines, re
 
 -- ---- the cells of a line
 
-pub record CellsInv (ws : List ℕ) (at : ℕ) (map₀ : List ℕ) (n : ℕ) (s : Scan) (l : ℕ) (map : List ℕ) (place : Place) (before a : ℕ) : Type 0 where
+pub record CellsInv (ws : List ℕ) (at : ℕ) (map₀ : List ℕ) (n : ℕ) (s : Scan) (l : ℕ) (map : List ℕ) (place : Place)
+    (before a : ℕ) : Type 0 where
   pub seen : a ≤ s .len
   pub sure : place .fault ≡ 0
   pub size : length map ≡ length map₀
@@ -116,7 +117,8 @@ context-set flags l f h = rw add-one (sym (getD-set-same flags l f 0 h))
 
 -- ---- all lines
 
-pub record LinesInv (ws : List ℕ) (at : ℕ) (map₀ flags₀ : List ℕ) (n : ℕ) (s : Scan) (map flags : List ℕ) (place : Place) (ctx l : ℕ) : Type 0 where
+pub record LinesInv (ws : List ℕ) (at : ℕ) (map₀ flags₀ : List ℕ) (n : ℕ) (s : Scan) (map flags : List ℕ)
+    (place : Place) (ctx l : ℕ) : Type 0 where
   pub seen : l ≤ s .lines
   pub sure : place .fault ≡ 0
   pub size : length map ≡ length map₀

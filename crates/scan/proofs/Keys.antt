@@ -6,7 +6,6 @@ use mathlib.Core.List.{List}
 use native.Mathlib.Omega.{arith}
 use lib.ListN.{getD}
 use Rattle.context.specs.Map.{cell, rowAt, colAt}
-use Rattle.near.specs.declared.Key.{Key}
 use Rattle.near.specs.Near.{edgeKey, threeKey, keyAt}
 use Rattle.scan.specs.declared.Scan.{Scan}
 use Rattle.scan.specs.Scan.{placeAt, cellIn, keyIn}

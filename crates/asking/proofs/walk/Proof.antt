@@ -28,7 +28,8 @@ Inv-loop src costs colors s n lambda head bound map₀ flags₀ orders codes mar
     × (askings .first ≡ 0) × (askings .later ≡ l - 1)
 
 abbrev μ-loop : tie.MeasureT-loop
-μ-loop src costs colors s n lambda head bound map₀ flags₀ orders codes marks cap skips cost₀ askings₀ ctx₀ l₀ map flags cost askings ctx l = s .lines - l
+μ-loop src costs colors s n lambda head bound map₀ flags₀ orders codes marks cap skips cost₀ askings₀ ctx₀ l₀ map flags cost askings ctx l =
+    s .lines - l
 
 -- after the costs were added, one line more
 module _ (c : tie.After-plus Inv-loop μ-loop) where

@@ -21,6 +21,10 @@ inside : (c : tie.Then1 Inv-loop μ-loop) → let a = c .before .before .before 
     (c .before .before .loop .a) < length (a .map .now)
 inside c = let p = c .before .before .before .before .before .pre .0 in p .0 .inside _ _ (p .1) (c .if1 .taken)
 
+-- the turn that a cell's place belongs to
+abbrev turn : tie.After-place2 Inv-loop μ-loop → tie.Then1 Inv-loop μ-loop
+turn c = c .before .before .before .before .before .before .before
+
 loop-holds : tie.Need-loop-holds Inv-loop μ-loop
 loop-holds c =
     let s = c .before .before in
@@ -49,35 +53,38 @@ returns c =
     )
 
 place-requires : tie.Need-place-requires Inv-loop μ-loop
-place-requires c κs = omega (arith, inside (c .before .before .before .before .before .before), c .before .before .before .before .before .before .before .before .before .before .before .pre .0 .0 .small)
+place-requires c κs =
+    let t = c .before .before .before .before .before .before in
+    omega (arith, inside t, t .before .before .before .before .before .pre .0 .0 .small)
 
 slice-write-map : tie.Need-slice-write-map Inv-loop μ-loop
-slice-write-map c = omega (arith, c .place2 .ensures, inside (c .before .before .before .before .before .before .before), c .before .before .before .before .before .before .before .before .before .loop .inv .size)
+slice-write-map c = omega (arith, c .place2 .ensures, inside (turn c), turn c .before .before .loop .inv .size)
 
 add-a : tie.Need-add-a Inv-loop μ-loop
-add-a c = omega (arith, c .before .before .before .before .before .before .before .if1 .taken)
+add-a c = omega (arith, turn c .if1 .taken)
 
 loop-less : tie.Need-loop-less Inv-loop μ-loop
-loop-less c = omega (arith, c .before .before .before .before .before .before .before .if1 .taken)
+loop-less c = omega (arith, turn c .if1 .taken)
 
 -- the index stands where it was put
-stands : (c : tie.After-place2 Inv-loop μ-loop) → let a = c .before .before .before .before .before .before .before .before .before .before .before .before .args in
-    let l = c .before .before .before .before .before .before .before .before .before .loop in
+stands : (c : tie.After-place2 Inv-loop μ-loop) → let a = turn c .before .before .before .before .before .args in
+    let l = turn c .before .before .loop in
     let i = c .before .before .before .before .before .read-index .result .index .0 in
     i ≡ cellIn (set (l .map) (c .place2 .result) i) (a .s) (a .l) (l .a)
 stands c =
-    let l = c .before .before .before .before .before .before .before .before .before .loop in
+    let l = turn c .before .before .loop in
     let p = c .place2 in
-    rw (← p .ensures) (sym (getD-set-same (l .map) (p .result) _ 0 (omega (arith, p .ensures, inside (c .before .before .before .before .before .before .before), l .inv .size))))
+    rw (← p .ensures)
+    (sym (getD-set-same (l .map) (p .result) _ 0 (omega (arith, p .ensures, inside (turn c), l .inv .size))))
 
 loop-again : tie.Need-loop-again Inv-loop μ-loop
 loop-again c =
-    let a = c .before .before .before .before .before .before .before .before .before .before .before .before .args in
-    let l = c .before .before .before .before .before .before .before .before .before .loop in
+    let a = turn c .before .before .before .before .before .args in
+    let l = turn c .before .before .loop in
     let r = c .before .before .before .before .before .read-index in
     let sound = c .before .before .if2 .left in
     cells-turn (a .words .now) (a .at) (a .map .now) (a .n) (a .s) (a .l) (l .map) (l .place) (l .before .0) (l .a) (l .inv)
-    (c .before .before .before .before .before .before .before .if1 .taken) (r .result .place) _
+    (turn c .if1 .taken) (r .result .place) _
     (cell-read (a .words .now) (a .n) (a .s) (a .l) (l .a) (l .place .at) (l .map) (r .result .place) (r .result .index .0) _ (r .ensures .0)
     (c .place2 .ensures))
     sound (length-set (l .map) _ _) (below-set (l .map) (a .n) _ _ (l .inv .below) (r .ensures .1 sound)) _ (stands c)
@@ -88,8 +95,10 @@ same-length-2 c = c .before .before .loop .inv .size
 returns-2 : tie.Need-returns-2 Inv-loop μ-loop
 returns-2 c =
     let a = c .before .before .before .before .before .args in
-    let l = c .before .before .loop in
-    (cells-end (a .words .now) (a .at) (a .map .now) (a .n) (a .s) (a .l) (l .map) (l .place) (l .before .0) (l .a) (l .inv) (c .if1 .left), λ h. l .inv .below)
+    let l = c .before .before .loop in (
+      cells-end (a .words .now) (a .at) (a .map .now) (a .n) (a .s) (a .l) (l .map) (l .place) (l .before .0) (l .a) (l .inv) (c .if1 .left),
+      λ h. l .inv .below,
+    )
 
 pub read-cells-spec : {M : Type 1} → statement M
 read-cells-spec =

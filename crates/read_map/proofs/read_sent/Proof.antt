@@ -23,7 +23,9 @@ returns c =
     )
 
 read-index-requires : tie.Need-read-index-requires
-read-index-requires c κs = let p = c .before .before .before .before .before .pre in ((p .0 .0, p .0 .1, p .0 .0 .some), (p .1 .0, p .1 .1, p .1 .2, p .1 .3, λ h. absurd (omega arith)))
+read-index-requires c κs =
+    let p = c .before .before .before .before .before .pre in
+    ((p .0 .0, p .0 .1, p .0 .0 .some), (p .1 .0, p .1 .1, p .1 .2, p .1 .3, λ h. absurd (omega arith)))
 
 fill-line-requires : tie.Need-fill-line-requires
 fill-line-requires c κs = let p = c .before .before .before .before .before .before .before .before .pre in (p .0 .0, p .0 .1)

@@ -38,7 +38,9 @@ array-borrow-prefix-cells : tie.Need-array-borrow-prefix-cells
 array-borrow-prefix-cells c = cells-few (c .before .before .before .before .before .before .before .before)
 
 slice-aggregate-read-rest : tie.Need-slice-aggregate-read-rest
-slice-aggregate-read-rest c = sym (length-take-le {A = ℕ} _ (replicate 4096 0) (cells-few (c .before .before .before .before .before .before .before .before .before)))
+slice-aggregate-read-rest c =
+    let s = c .before .before .before .before .before .before .before .before .before in
+    sym (length-take-le {A = ℕ} _ (replicate 4096 0) (cells-few s))
 
 array-borrow-prefix-lines : tie.Need-array-borrow-prefix-lines
 array-borrow-prefix-lines c = lines-few (c .before .before)

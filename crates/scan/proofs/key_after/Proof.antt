@@ -1,6 +1,6 @@
-use Prim.Native.Nat.{_+_, _-_, _<_}
+use Prim.Native.Nat.{_-_, _<_}
 use mathlib.Core.Bool.{true, false}
-use mathlib.Core.Path.{_≡_, refl, sym, _∙_}
+use mathlib.Core.Path.{_≡_, sym, _∙_}
 use native.Mathlib.Omega.{arith}
 use lib.ListN.{length}
 use borrow.Author.Needs.{needs}
@@ -22,6 +22,10 @@ above-in s h = s .pre .0 .0 .inside (s .args .l - 1) (s .args .a) (omega (arith,
 
 diag-in : (s : tie.Start) → 0 < s .args .l → placeAt (s .args .s) (s .args .l - 1) (s .args .a - 1) < length (s .args .map .now)
 diag-in s h = s .pre .0 .0 .inside (s .args .l - 1) (s .args .a - 1) (omega (arith, s .pre .0 .1)) (omega (arith, s .pre .0 .2))
+
+-- from where the orientation was told
+abbrev start : tie.After-shared-slice-known3 → tie.Start
+start c = c .before .before .before .before .before .before .before
 
 edge-key-requires : tie.Need-edge-key-requires
 edge-key-requires c κs =
@@ -57,7 +61,8 @@ returns-2 c =
     let a = s .args in
     c .edge-key2 .ensures
     ∙ rw (c .before .before .before .place .ensures)
-    (sym (key-first (a .map .now) (a .s) (s .pre .0 .0 .major) (a .l) (a .a) (omega (arith, c .before .before .before .before .if1 .left)) (c .before .if2 .taken)))
+    (sym
+    (key-first (a .map .now) (a .s) (s .pre .0 .0 .major) (a .l) (a .a) (omega (arith, c .before .before .before .before .if1 .left)) (c .before .if2 .taken)))
 
 sub-place-2 : tie.Need-sub-place-2
 sub-place-2 c = search needs
@@ -71,35 +76,41 @@ place-requires-2 c κs =
     omega (arith, diag-in s (omega (arith, c .before .before .before .if1 .left)), s .pre .0 .0 .small)
 
 shared-slice-read-t14-2 : tie.Need-shared-slice-read-t14-2
-shared-slice-read-t14-2 c = omega (arith, c .before .place2 .ensures, diag-in (c .before .before .before .before .before .before .before) (omega (arith, c .before .before .before .before .before .if1 .left)))
+shared-slice-read-t14-2 c =
+    let some : 0 < start c .args .l = omega (arith, c .before .before .before .before .before .if1 .left) in
+    omega (arith, c .before .place2 .ensures, diag-in (start c) some)
 
 three-key-requires : tie.Need-three-key-requires
 three-key-requires c κs =
-    let s = c .before .before .before .before .before .before .before .before in
+    let s = start (c .before) in
     (s .pre .1 .1, s .pre .1 .0 _, before-small s (omega (arith, c .before .before .before .if2 .left)), s .pre .1 .0 _)
 
 returns-3 : tie.Need-returns-3
 returns-3 c =
-    let s = c .before .before .before .before .before .before .before .before .before in
+    let told = c .before .before in
+    let s = start told in
     let a = s .args in
-    let some : 0 < a .a = omega (arith, c .before .before .before .before .if2 .left) in
-    let inner = key-inner (a .map .now) (a .s) (s .pre .0 .0 .major) true (c .before .if3 .taken) (a .l) (a .a) (omega (arith, c .before .before .before .before .before .before .before .if1 .left)) some in
+    let some : 0 < a .a = omega (arith, told .before .before .if2 .left) in
+    let inner = key-inner (a .map .now) (a .s) (s .pre .0 .0 .major) true (c .before .if3 .taken) (a .l) (a .a)
+    (omega (arith, told .before .before .before .before .before .if1 .left)) some in
     c .three-key .ensures
-    ∙ rw (c .before .before .before .before .before .before .place .ensures, c .before .before .before .place2 .ensures, before-is s some) (sym inner)
+    ∙ rw (told .before .before .before .before .place .ensures, told .before .place2 .ensures, before-is s some) (sym inner)
 
 three-key-requires-2 : tie.Need-three-key-requires-2
 three-key-requires-2 c κs =
-    let s = c .before .before .before .before .before .before .before .before in
+    let s = start (c .before) in
     (s .pre .1 .1, before-small s (omega (arith, c .before .before .before .if2 .left)), s .pre .1 .0 _, s .pre .1 .0 _)
 
 returns-4 : tie.Need-returns-4
 returns-4 c =
-    let s = c .before .before .before .before .before .before .before .before .before in
+    let told = c .before .before in
+    let s = start told in
     let a = s .args in
-    let some : 0 < a .a = omega (arith, c .before .before .before .before .if2 .left) in
-    let inner = key-inner (a .map .now) (a .s) (s .pre .0 .0 .major) false (c .before .if3 .left) (a .l) (a .a) (omega (arith, c .before .before .before .before .before .before .before .if1 .left)) some in
+    let some : 0 < a .a = omega (arith, told .before .before .if2 .left) in
+    let inner = key-inner (a .map .now) (a .s) (s .pre .0 .0 .major) false (c .before .if3 .left) (a .l) (a .a)
+    (omega (arith, told .before .before .before .before .before .if1 .left)) some in
     c .three-key2 .ensures
-    ∙ rw (c .before .before .before .before .before .before .place .ensures, c .before .before .before .place2 .ensures, before-is s some) (sym inner)
+    ∙ rw (told .before .before .before .before .place .ensures, told .before .place2 .ensures, before-is s some) (sym inner)
 
 pub key-after-spec : {M : Type 1} → statement M
 key-after-spec =
