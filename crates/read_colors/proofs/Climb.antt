@@ -66,7 +66,7 @@ module _ (ws : List ℕ) (n bd : ℕ) (G : Got (List ℕ)) (held : Held) (b last
         → (last′ b′ : ℕ) → last′ ≡ last + 1 + t .second → b′ ≡ cutBits bd b last′
         → r .colors ≡ inEight (insert last′ (colorsIn held)) → StepsInv ws n bd G r b′ last′
     steps-turn h r e g most last′ b′ p q are =
-        let less : t .second < min (2 ^ b) (2 ^ bd - 1 - last) = k .sure h .0 in
+        let less : t .second < min (2 ^ b) (2 ^ bd - 1 - last) = k .sure h in
         let f = added held r n last′ (v .sound) most g are in
         record {
           sound = sound-added held r n last′ (v .sound) most g are n (omega arith);

@@ -22,35 +22,29 @@ use Rattle.read_map.specs.Map.{readIndex, readCell, readCells, Lines, re
 
 -- ---- the cells of a line
 
-pub record CellsInv (ws : List ℕ) (at : ℕ) (map₀ : List ℕ) (n : ℕ) (s : Scan) (l : ℕ) (map : List ℕ) (place : Place)
-    (before a : ℕ) : Type 0 where
+pub record CellsInv (ws : List ℕ) (at : ℕ) (map₀ : List ℕ) (n : ℕ) (s : Scan) (l : ℕ) (map : List ℕ) (place : Place) (a : ℕ) : Type 0 where
   pub seen : a ≤ s .len
   pub sure : place .fault ≡ 0
   pub size : length map ≡ length map₀
   pub below : Below map n
-  pub behind : 0 < a → before ≡ cellIn map s l (a - 1)
   pub reads : readUpTo (readCell n s l) a map₀ (drop at ws) ≡ told place map ws
 
 pub cells-start : (ws : List ℕ) (at : ℕ) (map₀ : List ℕ) (n : ℕ) (s : Scan) (l : ℕ) → Below map₀ n
-    → CellsInv ws at map₀ n s l map₀ (record { at = at; fault = 0 }) 0 0
+    → CellsInv ws at map₀ n s l map₀ (record { at = at; fault = 0 }) 0
 unfolding readUpTo told
-cells-start ws at map₀ n s l b =
-    record { seen = omega arith; sure = refl; size = refl; below = b; behind = λ h. absurd (omega arith); reads = refl }
+cells-start ws at map₀ n s l b = record { seen = omega arith; sure = refl; size = refl; below = b; reads = refl }
 
-module _ (ws : List ℕ) (at : ℕ) (map₀ : List ℕ) (n : ℕ) (s : Scan) (l : ℕ) (map : List ℕ) (place : Place) (before a : ℕ)
-    (v : CellsInv ws at map₀ n s l map place before a) where
+module _ (ws : List ℕ) (at : ℕ) (map₀ : List ℕ) (n : ℕ) (s : Scan) (l : ℕ) (map : List ℕ) (place : Place) (a : ℕ)
+    (v : CellsInv ws at map₀ n s l map place a) where
   module _ (more : a < s .len) (r : Place) (next : List ℕ) (e : readCell n s l a map (drop (place .at) ws) ≡ told r next ws) where
     cells-more : readUpTo (readCell n s l) (a + 1) map₀ (drop at ws) ≡ told r next ws
     cells-more = up-next (readCell n s l) map₀ (drop at ws) ws a map place r next (v .reads) (v .sure) e
 
-    pub cells-fault : (r .fault ≡ 0 → ⊥) → (left : List ℕ) → readUpTo (readCell n s l) (s .len) map₀ (drop at ws) ≡ told r left ws
-    cells-fault h left = up-fault (readCell n s l) map₀ (drop at ws) ws (s .len) (a + 1) r next left (omega arith) cells-more h
+    pub cells-fault : (r .fault ≡ 0 → ⊥) → readUpTo (readCell n s l) (s .len) map₀ (drop at ws) ≡ told r next ws
+    cells-fault h = up-fault (readCell n s l) map₀ (drop at ws) ws (s .len) (a + 1) r next next (omega arith) cells-more h
 
-    pub cells-turn : r .fault ≡ 0 → length next ≡ length map → Below next n → (i : ℕ) → i ≡ cellIn next s l a
-        → CellsInv ws at map₀ n s l next r i (a + 1)
-    cells-turn h k b i e =
-        let same : a + 1 - 1 ≡ a = omega arith in
-        record { seen = omega arith; sure = h; size = k ∙ v .size; below = b; behind = λ g. rw same e; reads = cells-more }
+    pub cells-turn : r .fault ≡ 0 → length next ≡ length map → Below next n → CellsInv ws at map₀ n s l next r (a + 1)
+    cells-turn h k b = record { seen = omega arith; sure = h; size = k ∙ v .size; below = b; reads = cells-more }
 
   pub cells-end : s .len ≤ a → readUpTo (readCell n s l) (s .len) map₀ (drop at ws) ≡ told place map ws
   cells-end h = let same : a ≡ s .len = omega (arith, v .seen) in rw same at (v .reads)

@@ -1,55 +1,57 @@
 -- The index of a cell by the word read. Assumes nothing.
 use mathlib.Core.Path.{_≡_, refl, sym, ap, _∙_}
-use mathlib.Core.Bool.{Bool, true, false}
 use mathlib.Core.List.{List}
-use Prim.Native.Nat.{ℕ, _+_, _*_, _-_, _%_, _<_, _≤_}
+use Prim.Native.Nat.{ℕ, _+_, _*_, _-_, _<_, _≤_}
 use native.Mathlib.Omega.{arith}
-use lib.Dec.{eqb}
 use lib.ListN.{getD, set, drop}
-use borrow.Author.Tests.{eq-eqb, ne-eqb, eqb-true, eqb-false}
+use borrow.Author.Tests.{eq-eqb, ne-eqb}
+use Rattle.context.specs.Map.{rowAt, colAt}
 use Rattle.context.specs.Order.{Around, orderOf}
-use Rattle.literals.specs.Words.{word}
+use Rattle.context.proofs.Around.{around-ctx}
 use Rattle.rows.specs.Rows.{orderRow}
 use Rattle.near.specs.declared.Key.{Key}
-use Rattle.near.specs.Near.{Keyed}
-use Rattle.near.proofs.Keys.{key-index, key-index-below}
+use Rattle.near.specs.Near.{Below, Keyed}
+use Rattle.near.proofs.Keys.{keyed, key-index, key-index-below}
 use Rattle.scan.specs.declared.Scan.{Scan}
-use Rattle.scan.specs.Scan.{placeAt, aroundIn}
+use Rattle.scan.specs.Scan.{placeAt, aroundIn, keyIn}
 use Rattle.reader.specs.Reader.{Got, after, ret, due}
 use Rattle.reader.specs.Steps.{told, Took}
 use Rattle.reader.specs.declared.Place.{Place}
 use Rattle.reader.specs.declared.Taken.{Taken}
-use Rattle.reader.proofs.Steps.{told-made, told-any}
+use Rattle.reader.proofs.Steps.{told-made}
 use Rattle.read_map.specs.Map.{readRanked, readIndex, readCell}
 
--- the rank that the word due holds
-pub rank-held : (f r : ℕ) → r < 8 → word 5 f r % 8 ≡ r
-unfolding word
-rank-held f r h = omega arith
+module _ (map : List ℕ) (s : Scan) (n l a : ℕ) (two : 2 ≤ n) (eight : n ≤ 8) (below : Below map n) (k : Key) (is : k ≡ keyIn map s l a) where
+  abbrev y : ℕ
+  y = rowAt (s .transposed) l a
 
-module _ (n : ℕ) (eight : n ≤ 8) (o : Around) (key : Key) (is : Keyed o n key) where
-  pub ranked-read : (ws : List ℕ) (at : ℕ) (t : Taken) (i : ℕ) → Took ws at 5 ((n - 2) * 5 + key .ctx) n t
-      → i ≡ getD (orderRow (key .row)) (getD ws at 0 % 8) 0
-      → (readRanked n o (drop at ws) ≡ told (t .place) i ws) × (t .place .fault ≡ 0 → i < n)
+  abbrev x : ℕ
+  x = colAt (s .transposed) l a
+
+  abbrev o : Around
+  o = aroundIn map s l a
+
+  key : Keyed o n k
+  key = rw is (keyed map (s .w) y x n below (omega arith) eight)
+
+  pub row-low : k .row < 512
+  row-low = key .fits .0
+
+  pub ctx-low : k .ctx < 5
+  ctx-low = rw (key .ctx) (around-ctx map (s .w) y x)
+
+  pub ranked-read : (ws : List ℕ) (at : ℕ) (t : Taken) (i : ℕ) → Took ws at 5 ((n - 2) * 5 + k .ctx) n t
+      → i ≡ getD (orderRow (k .row)) (t .second) 0 → (readRanked n o (drop at ws) ≡ told (t .place) i ws) × (i < n)
   unfolding readRanked
-  ranked-read ws at t i k e =
+  ranked-read ws at t i took e =
+      let r : t .second < n = took .below (omega arith) in
+      let j : i ≡ getD (orderOf o n) (t .second) 0 = e ∙ key-index o n k key eight (t .second) r in
       let d : due 5 ((n - 2) * 5 + o .ctx) n (drop at ws) ≡ told (t .place) (t .second) ws =
-      ap (λ (v : ℕ). due 5 ((n - 2) * 5 + v) n (drop at ws)) (sym (is .ctx)) ∙ k .reads in
-      let made = ap (λ (g : Got ℕ). after g (λ r. ret (getD (orderOf o n) r 0))) d
-      ∙ told-made (t .place) (t .second) ws (λ r. getD (orderOf o n) r 0) in
-      (made ∙ go (eqb (t .place .fault) 0) refl, λ h. rw (index h) (key-index-below o n key is eight (t .second) (k .sure h .0)))
-    where
-      -- without a fault it is the index at the rank told
-      index : t .place .fault ≡ 0 → i ≡ getD (orderOf o n) (t .second) 0
-      index h =
-          let low = k .sure h .0 in
-          let rank : getD ws at 0 % 8 ≡ t .second =
-          ap (λ (c : ℕ). c % 8) (k .sure h .1) ∙ rank-held ((n - 2) * 5 + key .ctx) (t .second) (omega arith) in
-          e ∙ ap (λ (r : ℕ). getD (orderRow (key .row)) r 0) rank ∙ key-index o n key is eight (t .second) low
-
-      go : (b : Bool) → eqb (t .place .fault) 0 ≡ b → told (t .place) (getD (orderOf o n) (t .second) 0) ws ≡ told (t .place) i ws
-      go true p = ap (λ (v : ℕ). told (t .place) v ws) (sym (index (eqb-true _ _ p)))
-      go false p = told-any (t .place) _ i ws (eqb-false _ _ p)
+      ap (λ (v : ℕ). due 5 ((n - 2) * 5 + v) n (drop at ws)) (sym (key .ctx)) ∙ took .reads in (
+        ap (λ (g : Got ℕ). after g (λ r. ret (getD (orderOf o n) r 0))) d
+            ∙ told-made (t .place) (t .second) ws (λ r. getD (orderOf o n) r 0) ∙ ap (λ (v : ℕ). told (t .place) v ws) (sym j),
+        rw j (key-index-below o n k key eight (t .second) r),
+      )
 
 pub index-first : (map : List ℕ) (s : Scan) (n l a : ℕ) (vs : List ℕ) → l + a ≡ 0 → readIndex n s l a map vs ≡ due 2 n n vs
 unfolding readIndex

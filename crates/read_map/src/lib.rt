@@ -6,12 +6,12 @@ use reader::take;
 use scan::Scan;
 ghost use mathlib.Core.Path.{_≡_};
 ghost use mathlib.Core.Bool.{cond};
-ghost use Prim.Native.Nat.{_+_, _-_, _%_, _<_, _≤_};
+ghost use Prim.Native.Nat.{_+_, _<_, _≤_};
 ghost use lib.Dec.{eqb};
-ghost use lib.ListN.{length, getD, drop};
-ghost use Rattle.rows.specs.Rows.{Tables};
+ghost use lib.ListN.{length, drop};
+ghost use Rattle.rows.specs.Rows.{orderTable, codeTable};
 ghost use Rattle.near.specs.Near.{Below};
-ghost use Rattle.scan.specs.Scan.{cellIn, aroundIn, Sound};
+ghost use Rattle.scan.specs.Scan.{aroundIn, Sound};
 ghost use Rattle.reader.specs.Reader.{due, readUpTo};
 ghost use Rattle.reader.specs.Steps.{told};
 ghost use Rattle.read_map.specs.Map.{readRanked, readIndex, readCell, readCells, readLines};
@@ -35,17 +35,7 @@ fn read_first(words: &[u32], at: usize, n: usize) -> Found
     }
 }
 
-// The rank that the word at a place holds if it is the one due: so the row's index need not wait for the test of the word.
-fn rank_in(words: &[u32], at: usize) -> Rank
-    ensures { λ r. ⌜ r .0 ≡ getD (now (words .entry)) at 0 % 8 ⌝ }
-{
-    if at < words.len() {
-        return Rank((words[at] % 8) as u8);
-    }
-    Rank(0)
-}
-
-// The index of another cell: the one at the rank read, in the order of its row. Of no account where the word is at fault.
+// The index of another cell: the one at the rank read, in the row of its neighbours.
 fn read_ranked(
     words: &[u32],
     at: usize,
@@ -54,27 +44,25 @@ fn read_ranked(
     n: usize,
     l: usize,
     a: usize,
-    before: Index,
     orders: &[u8; 4096],
     codes: &[u8; 4096],
 ) -> Found
-    requires { ⌜ Sound s (length (now map)) × (l < s .lines) × (a < s .len) × (0 < l + a) ⌝ }
-    requires { ⌜ (2 ≤ n) × (n ≤ 8) × Below (now map) n × Tables (now orders) (now codes)
-        × (0 < a → before .0 ≡ cellIn (now map) s l (a - 1)) ⌝ }
+    requires { ⌜ Sound s (length (now map)) × (l < s .lines) × (a < s .len) ⌝ }
+    requires { ⌜ (2 ≤ n) × (n ≤ 8) × Below (now map) n × (now orders ≡ orderTable) × (now codes ≡ codeTable) ⌝ }
     ensures { λ r. ⌜ readRanked n (aroundIn (now (map .entry)) s l a) (drop at (now (words .entry)))
         ≡ told (r .place) (r .index .0) (now (words .entry)) ⌝ }
-    ensures { λ r. ⌜ (r .place .fault ≡ 0 → r .index .0 < n) ⌝ }
+    ensures { λ r. ⌜ r .index .0 < n ⌝ }
 {
-    let key = scan::key_after(map, codes, s, l, a, before);
+    let key = scan::key_cell(map, codes, s, l, a);
     let taken = take(words, at, 5, ((n - 2) * 5 + key.ctx) as u32, n as u32);
     let place = taken.place;
     Found {
-        index: rows::index_at(orders, key.row, rank_in(words, at)),
+        index: rows::index_at(orders, key.row, Rank(taken.second as u8)),
         place,
     }
 }
 
-// The index of cell a of line l; `before` is that of the cell before it on the line.
+// The index of cell a of line l.
 fn read_index(
     words: &[u32],
     at: usize,
@@ -83,21 +71,19 @@ fn read_index(
     n: usize,
     l: usize,
     a: usize,
-    before: Index,
     orders: &[u8; 4096],
     codes: &[u8; 4096],
 ) -> Found
     requires { ⌜ Sound s (length (now map)) × (l < s .lines) × (a < s .len) ⌝ }
-    requires { ⌜ (2 ≤ n) × (n ≤ 8) × Below (now map) n × Tables (now orders) (now codes)
-        × (0 < a → before .0 ≡ cellIn (now map) s l (a - 1)) ⌝ }
+    requires { ⌜ (2 ≤ n) × (n ≤ 8) × Below (now map) n × (now orders ≡ orderTable) × (now codes ≡ codeTable) ⌝ }
     ensures { λ r. ⌜ readIndex n s l a (now (map .entry)) (drop at (now (words .entry)))
         ≡ told (r .place) (r .index .0) (now (words .entry)) ⌝ }
-    ensures { λ r. ⌜ (r .place .fault ≡ 0 → r .index .0 < n) ⌝ }
+    ensures { λ r. ⌜ r .index .0 < n ⌝ }
 {
     if l + a == 0 {
         return read_first(words, at, n);
     }
-    read_ranked(words, at, map, s, n, l, a, before, orders, codes)
+    read_ranked(words, at, map, s, n, l, a, orders, codes)
 }
 
 // Reads the cells of line l one by one.
@@ -112,23 +98,22 @@ fn read_cells(
     codes: &[u8; 4096],
 ) -> Place
     requires { ⌜ Sound s (length (now map)) × (l < s .lines) ⌝ }
-    requires { ⌜ (2 ≤ n) × (n ≤ 8) × Below (now map) n × Tables (now orders) (now codes) ⌝ }
+    requires { ⌜ (2 ≤ n) × (n ≤ 8) × Below (now map) n × (now orders ≡ orderTable) × (now codes ≡ codeTable) ⌝ }
     ensures { λ r. ⌜ readUpTo (readCell n s l) (s .len) (now (map .entry)) (drop at (now (words .entry)))
         ≡ told r (now (map .exit)) (now (words .entry)) ⌝ }
-    ensures { λ r. ⌜ (r .fault ≡ 0 → Below (now (map .exit)) n) ⌝ }
+    ensures { λ r. ⌜ Below (now (map .exit)) n ⌝ }
 {
     let mut place = Place { at, fault: 0 };
-    let mut before = Index(0);
     let mut a: usize = 0;
     while a < s.len {
-        let found = read_index(words, place.at, map, s, n, l, a, before, orders, codes);
+        let found = read_index(words, place.at, map, s, n, l, a, orders, codes);
+        let index = found.index;
+        let p = scan::place(s, l, a);
+        map[p] = index.0;
         place = found.place;
         if place.fault != 0 {
             return place;
         }
-        before = found.index;
-        let p = scan::place(s, l, a);
-        map[p] = before.0;
         a += 1;
     }
     place
@@ -147,16 +132,16 @@ fn read_sent(
     codes: &[u8; 4096],
 ) -> Place
     requires { ⌜ Sound s (length (now map)) × (l < s .lines) × (2 ≤ flag → 0 < l) ⌝ }
-    requires { ⌜ (2 ≤ n) × (n ≤ 8) × Below (now map) n × Tables (now orders) (now codes) ⌝ }
+    requires { ⌜ (2 ≤ n) × (n ≤ 8) × Below (now map) n × (now orders ≡ orderTable) × (now codes ≡ codeTable) ⌝ }
     ensures { λ r. ⌜ readCells flag n s l (now (map .entry)) (drop at (now (words .entry)))
         ≡ told r (now (map .exit)) (now (words .entry)) ⌝ }
-    ensures { λ r. ⌜ (r .fault ≡ 0 → Below (now (map .exit)) n) ⌝ }
+    ensures { λ r. ⌜ Below (now (map .exit)) n ⌝ }
 {
     if flag == 0 {
         return read_cells(words, at, map, s, n, l, orders, codes);
     }
     if flag == 1 {
-        let found = read_index(words, at, map, s, n, l, 0, Index(0), orders, codes);
+        let found = read_index(words, at, map, s, n, l, 0, orders, codes);
         let index = found.index;
         scan::fill_line(map, s, l, index.0);
         return found.place;
@@ -184,7 +169,7 @@ pub fn read_lines(
     codes: &[u8; 4096],
 ) -> Place
     requires { ⌜ Sound s (length (now map)) × (length (now flags) ≡ s .lines) ⌝ }
-    requires { ⌜ (2 ≤ n) × (n ≤ 8) × Below (now map) n × Tables (now orders) (now codes) ⌝ }
+    requires { ⌜ (2 ≤ n) × (n ≤ 8) × Below (now map) n × (now orders ≡ orderTable) × (now codes ≡ codeTable) ⌝ }
     ensures { λ r. ⌜ readLines n s (record { flags = now (flags .entry); map = now (map .entry) }) (drop at (now (words .entry)))
         ≡ told r (record { flags = now (flags .exit); map = now (map .exit) }) (now (words .entry)) ⌝ }
 {

@@ -54,25 +54,23 @@ module _ (ws : List ℕ) (at kind first limit : ℕ) where
   got-fault : {A : Type 0} (v : A) (left : List ℕ) (k : ℕ) → _≡_ {A = Got A} (got v left) (fault k) → ⊥
   got-fault v left k e = let z : _≡_ {A = ℕ} 0 1 = cc in omega arith
 
-  -- a second field was read: the place is inside, the field below the limit, and the word made of it
-  step-sure : (v : ℕ) → StepsAt ws at kind first limit (Second v) → (at < length ws) × (v < limit) × (c ≡ word kind first v)
+  -- a second field was read: the place is inside, and the field below the limit
+  step-sure : (v : ℕ) → StepsAt ws at kind first limit (Second v) → (at < length ws) × (v < limit)
   unfolding isDue word
   step-sure v e = go (ltb at (length ws)) refl
     where
       inner : at < length ws → (b d : Bool) → leb least c ≡ b → ltb c (word kind first limit) ≡ d
-          → got v (drop (at + 1) ws) ≡ cond (b && d) (got (c - least) (drop (at + 1) ws)) (fault 21) → (v < limit) × (c ≡ word kind first v)
+          → got v (drop (at + 1) ws) ≡ cond (b && d) (got (c - least) (drop (at + 1) ws)) (fault 21) → v < limit
       inner h true true p q f =
           let k : v ≡ c - least = cc in
-          let low = leb-true least c p in
-          (omega (arith, low, ltb-true c (word kind first limit) q), omega (arith, low))
+          omega (arith, leb-true least c p, ltb-true c (word kind first limit) q)
       inner h true false p q f = absurd (got-fault v _ 21 f)
       inner h false d p q f = absurd (got-fault v _ 21 f)
 
-      go : (b : Bool) → ltb at (length ws) ≡ b → (at < length ws) × (v < limit) × (c ≡ word kind first v)
+      go : (b : Bool) → ltb at (length ws) ≡ b → (at < length ws) × (v < limit)
       go true p =
           let h = ltb-true at (length ws) p in
-          let found = inner h (leb least c) (ltb c (word kind first limit)) refl refl (e ∙ at-word h) in
-          (h, found .0, found .1)
+          (h, inner h (leb least c) (ltb c (word kind first limit)) refl refl (e ∙ at-word h))
       go false p = absurd (got-fault v _ 20 (e ∙ at-end (ltb-false at (length ws) p)))
 
   pub second-inside : (v : ℕ) → StepsAt ws at kind first limit (Second v) → at < length ws
@@ -81,7 +79,7 @@ module _ (ws : List ℕ) (at kind first limit : ℕ) where
   pub took-second : (v : ℕ) → StepsAt ws at kind first limit (Second v)
       → Took ws at kind first limit (record { second = v; place = record { at = at + 1; fault = 0 } })
   unfolding told
-  took-second v e = record { reads = sym e; below = λ h. step-sure v e .1; sure = λ h. (step-sure v e .1, step-sure v e .2) }
+  took-second v e = record { reads = sym e; below = λ h. step-sure v e .1; sure = λ h. step-sure v e .1 }
 
   pub took-ended : StepsAt ws at kind first limit Ended
       → Took ws at kind first limit (record { second = 0; place = record { at = at; fault = 20 } })

@@ -4,8 +4,7 @@ use mathlib.Core.Path.{_≡_}
 use mathlib.Core.Bool.{cond}
 use mathlib.Core.List.{List}
 use lib.Dec.{eqb}
-use lib.ListN.{getD, drop}
-use Rattle.literals.specs.Words.{word}
+use lib.ListN.{drop}
 use Rattle.reader.specs.Reader.{Got, got, fault, due}
 use Rattle.reader.specs.declared.Place.{Place}
 use Rattle.reader.specs.declared.Taken.{Taken}
@@ -26,8 +25,8 @@ StepsAt ws at kind first limit r = gotBy r (drop (at + 1) ws) ≡ due kind first
 unfoldable pub told : {A : Type 0} → Place → A → List ℕ → Got A
 told p a ws = cond (eqb (p .fault) 0) (got a (drop (p .at) ws)) (fault (p .fault))
 
--- one word taken: where there is no fault it stood at the place, with a second field below the limit; 0 stands for that of none
+-- one word taken: its second field is below the limit, also where there is none and 0 stands for it
 pub record Took (ws : List ℕ) (at kind first limit : ℕ) (r : Taken) : Type 0 where
   pub reads : due kind first limit (drop at ws) ≡ told (r .place) (r .second) ws
   pub below : 0 < limit → r .second < limit
-  pub sure : r .place .fault ≡ 0 → (r .second < limit) × (getD ws at 0 ≡ word kind first (r .second))
+  pub sure : r .place .fault ≡ 0 → r .second < limit

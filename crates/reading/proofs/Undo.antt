@@ -29,6 +29,7 @@ use Rattle.lists.proofs.Same.{same-is, same-refl}
 use Rattle.reader.proofs.Words.{bit-below, bit-eqb}
 use Rattle.reading.proofs.Colors.{colors-read}
 use Rattle.reader.proofs.Takes.{Takes, done, one, then, last}
+use Rattle.reading.proofs.Answers.{sizes}
 use Rattle.reading.proofs.Lines.{lines-read}
 
 -- ---- what is listed is read
@@ -133,6 +134,16 @@ read-of-list w h bd cache p cells lines g k a =
       zero-of-accepted w h bd cache p a,
       same-refl list,
     ) refl
+
+-- a palette that is listed to these words is what is read
+pub listed-back : (w h bd : ℕ) (cache : List ℕ) (p : Palette) (cells lines : ℕ) (ws : List ℕ) → limits w h bd (length cache) cells lines ≡ 0
+    → relists w h bd cache p ws ≡ true → reading w h bd cache cells lines ws ≡ back p
+unfolding relists
+listed-back w h bd cache p cells lines ws passed f =
+    let z : refusal w h bd (length cache) p ≡ 0 = eqb-true _ 0 (and-l (eqb (refusal w h bd (length cache) p) 0) _ f) in
+    let l : callList w h bd cache p ≡ ws = same-is _ ws (and-r (eqb (refusal w h bd (length cache) p) 0) _ f) in
+    let s = sizes w h bd (length cache) cells lines passed in
+    ap (reading w h bd cache cells lines) (sym l) ∙ read-of-list w h bd cache p cells lines (s .room) (s .rows) (accepted-of-zero w h bd cache p z)
 
 pub exactly-same : ReadExactlySame
 exactly-same w h bd cache p q cells lines cells′ lines′ ws vs r s =

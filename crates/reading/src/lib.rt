@@ -7,8 +7,10 @@ ghost use mathlib.Core.Path.{_≡_};
 ghost use Prim.Native.Nat.{_*_, _≤_};
 ghost use lib.Dec.{eqb};
 ghost use lib.ListN.{length, take, drop, replicate};
+ghost use lib.Ieee.{binary32, ofBits};
+ghost use Rattle.lists.specs.Written.{front};
 ghost use Rattle.lists.specs.Same.{sameList};
-ghost use Rattle.rows.specs.Rows.{Tables};
+ghost use Rattle.rows.specs.Rows.{orderTable, codeTable};
 ghost use Rattle.scan.specs.Scan.{scanOf};
 ghost use Rattle.accept.specs.Palette.{paletteOf};
 ghost use Rattle.reader.specs.Steps.{told};
@@ -39,7 +41,7 @@ fn read_orient(words: &[u32], at: usize, w: usize, h: usize) -> Taken
     }
 }
 
-// Whether the first `count` words are the whole list. The loop goes to the end, so that many words are compared at once.
+// Whether the first `count` words are the whole list.
 fn same_words(aside: &[u32], count: usize, words: &[u32]) -> bool
     requires { ⌜ count ≤ length (now aside) ⌝ }
     ensures { λ r. ⌜ r ≡ sameList (take count (now (aside .entry))) (now (words .entry)) ⌝ }
@@ -107,6 +109,25 @@ fn relists(
     same_words(aside, listed.count, words)
 }
 
+// Writes what was read, and answers with the palette.
+fn deliver(b: Head, cells: &[u8], lines: &[u8], map: &mut [u8], flags: &mut [u8]) -> Palette
+    requires { ⌜ (length (now cells) ≤ length (now map)) × (length (now lines) ≤ length (now flags)) ⌝ }
+    ensures { λ r. ⌜ (now (map .exit) ≡ front (now (cells .entry)) (now (map .entry)))
+        × (now (flags .exit) ≡ front (now (lines .entry)) (now (flags .entry))) ⌝ }
+    ensures { λ r. ⌜ r ≡ record { number = 0; n = b .n; colors = b .colors; transposed = b .transposed; bits = ofBits binary32 0 } ⌝ }
+{
+    lists::copy_bytes(cells, cells.len(), map);
+    lists::copy_bytes(lines, lines.len(), flags);
+    let colors = b.colors;
+    Palette {
+        number: 0,
+        n: b.n,
+        colors,
+        transposed: b.transposed,
+        bits: 0.0,
+    }
+}
+
 // Reads the lines behind the head, into cells and lines; what is read to its end and would be listed again is given back.
 fn read_rest(
     b: Head,
@@ -122,7 +143,7 @@ fn read_rest(
 ) -> Palette
     requires { ⌜ Headed b (now cache) (now words) (length (now map)) (length (now flags)) ⌝ }
     requires { ⌜ (now cells ≡ replicate (b .width * b .height) 0) × (now lines ≡ replicate (scanOf (b .width) (b .height) (b .transposed) .lines) 0)
-        × (4234 ≤ length (now aside)) × Tables (now orders) (now codes) ⌝ }
+        × (4234 ≤ length (now aside)) × (now orders ≡ orderTable) × (now codes ≡ codeTable) ⌝ }
     ensures { λ r. ⌜ Reads
         (reading (b .width) (b .height) (b .bd) (now (cache .entry)) (length (now (map .entry))) (length (now (flags .entry))) (now (words .entry)))
         (now (map .entry)) (now (map .exit)) (now (flags .entry)) (now (flags .exit)) r ⌝ }
@@ -138,27 +159,25 @@ fn read_rest(
     if !relists(b, cells, lines, cache, words, aside) {
         return accept::refuse(23);
     }
-    lists::copy_bytes(cells, cells.len(), map);
-    lists::copy_bytes(lines, lines.len(), flags);
-    let colors = b.colors;
-    Palette {
-        number: 0,
-        n: b.n,
-        colors,
-        transposed: b.transposed,
-        bits: 0.0,
-    }
+    deliver(b, cells, lines, map, flags)
 }
 
-// As `read`, behind colours and orientation: with room aside for cells, flags and the list, and the tables made once.
-fn read_aside(b: Head, cache: &[u16], words: &[u32], map: &mut [u8], flags: &mut [u8]) -> Palette
-    requires { ⌜ Headed b (now cache) (now words) (length (now map)) (length (now flags)) ⌝ }
+// As `read_behind`, with both tables lent, and with room aside for cells, flags and the list.
+fn read_aside(
+    b: Head,
+    cache: &[u16],
+    words: &[u32],
+    map: &mut [u8],
+    flags: &mut [u8],
+    orders: &[u8; 4096],
+    codes: &[u8; 4096],
+) -> Palette
+    requires { ⌜ Headed b (now cache) (now words) (length (now map)) (length (now flags)) × (now orders ≡ orderTable)
+        × (now codes ≡ codeTable) ⌝ }
     ensures { λ r. ⌜ Reads
         (reading (b .width) (b .height) (b .bd) (now (cache .entry)) (length (now (map .entry))) (length (now (flags .entry))) (now (words .entry)))
         (now (map .entry)) (now (map .exit)) (now (flags .entry)) (now (flags .exit)) r ⌝ }
 {
-    let orders = rows::orders();
-    let codes = rows::codes();
     let mut cells = [0u8; 4096];
     let mut lines = [0u8; 64];
     let mut aside = [0u32; 4234];
@@ -172,9 +191,85 @@ fn read_aside(b: Head, cache: &[u16], words: &[u32], map: &mut [u8], flags: &mut
         &mut aside,
         map,
         flags,
-        &orders,
-        &codes,
+        orders,
+        codes,
     )
+}
+
+// As `read_behind`, with both tables and room aside lent. What is guessed and listed to the same words is what the list says; only
+// a list that is not is read word by word, for its number.
+fn read_guessed(
+    b: Head,
+    cache: &[u16],
+    words: &[u32],
+    cells: &mut [u8],
+    lines: &mut [u8],
+    aside: &mut [u32],
+    map: &mut [u8],
+    flags: &mut [u8],
+    orders: &[u8; 4096],
+    codes: &[u8; 4096],
+) -> Palette
+    requires { ⌜ Headed b (now cache) (now words) (length (now map)) (length (now flags)) ⌝ }
+    requires { ⌜ (now cells ≡ replicate (b .width * b .height) 0) × (now lines ≡ replicate (scanOf (b .width) (b .height) (b .transposed) .lines) 0)
+        × (4234 ≤ length (now aside)) × (now orders ≡ orderTable) × (now codes ≡ codeTable) ⌝ }
+    ensures { λ r. ⌜ Reads
+        (reading (b .width) (b .height) (b .bd) (now (cache .entry)) (length (now (map .entry))) (length (now (flags .entry))) (now (words .entry)))
+        (now (map .entry)) (now (map .exit)) (now (flags .entry)) (now (flags .exit)) r ⌝ }
+{
+    let s = scan::scan_of(b.width, b.height, b.transposed);
+    guess_map::guess_lines(words, b.at, cells, lines, s, orders, codes);
+    let listed = relists(b, cells, lines, cache, words, aside);
+    if !listed {
+        return read_aside(b, cache, words, map, flags, orders, codes);
+    }
+    deliver(b, cells, lines, map, flags)
+}
+
+// As `read_behind`, with both tables lent.
+fn read_by(
+    b: Head,
+    cache: &[u16],
+    words: &[u32],
+    map: &mut [u8],
+    flags: &mut [u8],
+    orders: &[u8; 4096],
+    codes: &[u8; 4096],
+) -> Palette
+    requires { ⌜ Headed b (now cache) (now words) (length (now map)) (length (now flags)) × (now orders ≡ orderTable)
+        × (now codes ≡ codeTable) ⌝ }
+    ensures { λ r. ⌜ Reads
+        (reading (b .width) (b .height) (b .bd) (now (cache .entry)) (length (now (map .entry))) (length (now (flags .entry))) (now (words .entry)))
+        (now (map .entry)) (now (map .exit)) (now (flags .entry)) (now (flags .exit)) r ⌝ }
+{
+    let mut cells = [0u8; 4096];
+    let mut lines = [0u8; 64];
+    let mut aside = [0u32; 4234];
+    let count = context::lines_of(b.transposed, b.width, b.height);
+    read_guessed(
+        b,
+        cache,
+        words,
+        &mut cells[..b.width * b.height],
+        &mut lines[..count],
+        &mut aside,
+        map,
+        flags,
+        orders,
+        codes,
+    )
+}
+
+// As `read`, behind colours and orientation.
+fn read_behind(b: Head, cache: &[u16], words: &[u32], map: &mut [u8], flags: &mut [u8]) -> Palette
+    requires { ⌜ Headed b (now cache) (now words) (length (now map)) (length (now flags)) ⌝ }
+    ensures { λ r. ⌜ Reads
+        (reading (b .width) (b .height) (b .bd) (now (cache .entry)) (length (now (map .entry))) (length (now (flags .entry))) (now (words .entry)))
+        (now (map .entry)) (now (map .exit)) (now (flags .entry)) (now (flags .exit)) r ⌝ }
+{
+    let orders = rows::orders();
+    let codes = rows::codes();
+    read_by(b, cache, words, map, flags, &orders, &codes)
 }
 
 // Reads a call list back: colours and orientation are returned, map and flags written from the front; or it is refused and
@@ -216,5 +311,5 @@ pub fn read(
         transposed: turned.second == 1,
         at: next.at,
     };
-    read_aside(b, cache, words, map, flags)
+    read_behind(b, cache, words, map, flags)
 }

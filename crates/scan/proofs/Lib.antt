@@ -1,4 +1,3 @@
 pub mod Scans
 pub mod Fill
 pub mod LineBefore
-pub mod Keys

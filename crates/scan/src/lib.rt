@@ -1,5 +1,4 @@
 // The order in which a map's lines are walked, and a line filled or copied. Functions may have a `requires`.
-use context::Index;
 ghost use mathlib.Core.Path.{_≡_};
 ghost use Prim.Native.Nat.{_+_, _*_, _-_, _<_};
 ghost use lib.ListN.{length};
@@ -86,34 +85,4 @@ pub fn key_cell(map: &[u8], codes: &[u8; 4096], s: Scan, l: usize, a: usize) -> 
         return near::key_at(map, codes, s.w, a, l);
     }
     near::key_at(map, codes, s.w, l, a)
-}
-
-// As `key_cell`, but for (0,0), where the index before on the line is at hand: who reads a line need not wait until it stands
-// in the map.
-pub fn key_after(
-    map: &[u8],
-    codes: &[u8; 4096],
-    s: Scan,
-    l: usize,
-    a: usize,
-    before: Index,
-) -> near::Key
-    requires { ⌜ Sound s (length (now map)) × (l < s .lines) × (a < s .len) × (0 < l + a) ⌝ }
-    requires { ⌜ Below (now map) 8 × (now codes ≡ codeTable) × (0 < a → before .0 ≡ cellIn (now map) s l (a - 1)) ⌝ }
-    ensures { λ r. ⌜ r ≡ keyIn (now (map .entry)) s l a ⌝ }
-{
-    if l == 0 {
-        return near::edge_key(before);
-    }
-    let p = place(s, l - 1, a);
-    let above = Index(map[p]);
-    if a == 0 {
-        return near::edge_key(above);
-    }
-    let q = place(s, l - 1, a - 1);
-    let diag = Index(map[q]);
-    if s.transposed {
-        return near::three_key(codes, above, before, diag);
-    }
-    near::three_key(codes, before, above, diag)
 }

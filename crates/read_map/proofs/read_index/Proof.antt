@@ -15,12 +15,11 @@ returns : tie.Need-returns
 returns c =
     let a = c .before .before .before .before .args in
     let e = c .read-first .ensures in
-    (index-first (a .map .now) (a .s) (a .n) (a .l) (a .a) _ (c .before .if1 .taken) ∙ e .0, λ h. e .1)
+    (index-first (a .map .now) (a .s) (a .n) (a .l) (a .a) _ (c .before .if1 .taken) ∙ e .0, e .1)
 
 read-ranked-requires : tie.Need-read-ranked-requires
 read-ranked-requires c κs =
-    let p = c .before .before .before .pre in
-    ((p .0 .0, p .0 .1, p .0 .2, omega (arith, c .if1 .left)), p .1)
+    c .before .before .before .pre
 
 returns-2 : tie.Need-returns-2
 returns-2 c =

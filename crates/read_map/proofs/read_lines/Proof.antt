@@ -58,7 +58,7 @@ read-sent-requires c κs =
         flag-later (l .l) _ _ (f .0)
             (c .before .before .before .before .before .take .ensures .below (f .1)),
       ),
-      (s .pre .1 .0, s .pre .1 .1, l .inv .below, s .pre .1 .3),
+      (s .pre .1 .0, s .pre .1 .1, l .inv .below, s .pre .1 .3, s .pre .1 .4),
     )
 
 same-length-3 : tie.Need-same-length-3 Inv-loop μ-loop
@@ -113,7 +113,7 @@ loop-again c =
     lines-turn (a .words .now) (a .at) (a .map .now) (a .flags .now) (a .n) (a .s) (l .map) (l .flags) (l .place) (l .ctx) (l .l) (l .inv)
     (far .before .before .if1 .taken) _ _ (f .0) k
     (c .before .before .before .before .before .before .before .if2 .left) (r .result) (r .last .1 .1 .0) (r .ensures .0)
-    (c .if3 .left) (r .kept .1 .1 .0) (r .ensures .1 (c .if3 .left)) (omega (arith, k .below (f .1), f .2))
+    (c .if3 .left) (r .kept .1 .1 .0) (r .ensures .1) (omega (arith, k .below (f .1), f .2))
 
 same-length-5 : tie.Need-same-length-5 Inv-loop μ-loop
 same-length-5 c = c .before .before .loop .inv .size

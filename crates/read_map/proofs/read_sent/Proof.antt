@@ -23,9 +23,7 @@ returns c =
     )
 
 read-index-requires : tie.Need-read-index-requires
-read-index-requires c κs =
-    let p = c .before .before .before .before .before .pre in
-    ((p .0 .0, p .0 .1, p .0 .0 .some), (p .1 .0, p .1 .1, p .1 .2, p .1 .3, λ h. absurd (omega arith)))
+read-index-requires c κs = let p = c .before .before .before .before .before .pre in ((p .0 .0, p .0 .1, p .0 .0 .some), p .1)
 
 fill-line-requires : tie.Need-fill-line-requires
 fill-line-requires c κs = let p = c .before .before .before .before .before .before .before .before .pre in (p .0 .0, p .0 .1)
@@ -42,7 +40,7 @@ returns-2 c =
     let e = c .before .before .before .fill-line .ensures in (
       cells-constant (a .words .now) (a .n) (a .s) (a .l) (a .flag) (a .at) (a .map .now) _ (r .result .place) (r .result .index .0)
           (c .before .before .before .before .before .before .before .before .if2 .taken) (r .ensures .0) e,
-      λ h. rw e (fill-below (a .s) (a .l) (a .n) (λ b. r .result .index .0) (a .map .now) (a .s .len) (λ b. r .ensures .1 h) (s .pre .1 .2)),
+      rw e (fill-below (a .s) (a .l) (a .n) (λ b. r .result .index .0) (a .map .now) (a .s .len) (λ b. r .ensures .1) (s .pre .1 .2)),
     )
 
 copy-line-requires : tie.Need-copy-line-requires
@@ -60,7 +58,7 @@ returns-3 c =
     let e = c .before .before .copy-line .ensures in (
       cells-copied (a .words .now) (a .n) (a .s) (a .l) (a .flag) (a .at) (a .map .now) _ (c .before .before .before .before .before .if1 .left)
           (c .before .before .before .before .if2 .left) e,
-      λ h. rw e
+      rw e
           (fill-below (a .s) (a .l) (a .n) (λ b. cellIn (a .map .now) (a .s) (a .l - 1) b) (a .map .now) (a .s .len)
           (λ b. s .pre .1 .2 (placeAt (a .s) (a .l - 1) b)) (s .pre .1 .2)),
     )

@@ -68,8 +68,8 @@ returns-3 c =
     (c .before .before .before .before .before .if2 .left) (o .result .place) _ (o .ensures) none fault) fault)
     (c .refuse3 .ensures)
 
-read-aside-requires : tie.Need-read-aside-requires
-read-aside-requires c κs =
+read-behind-requires : tie.Need-read-behind-requires
+read-behind-requires c κs =
     let far = c .before .before .before .before .before .before .before .before .before .before in
     let a = far .before .before .before .before .before .before .before .before .args in
     let r = far .before .read-colors in
@@ -103,7 +103,7 @@ read-spec =
     read-orient-requires
     refuse-requires-3
     returns-3
-    read-aside-requires
+    read-behind-requires
     same-length
     same-length-2
     returns-4)

@@ -13,34 +13,26 @@ use Rattle.reading.proofs.read_aside.Statement.{statement}
 use Rattle.reading.proofs.read_aside.Tie as tie
 
 cells-few : (s : tie.Start) → s .args .b .width * s .args .b .height ≤ 4096
-cells-few s = let z = sizes _ _ _ _ _ _ (s .pre .passed) in mul-le-mul (z .sides .0 .1) (z .sides .1 .1)
+cells-few s = let z = sizes _ _ _ _ _ _ (s .pre .0 .passed) in mul-le-mul (z .sides .0 .1) (z .sides .1 .1)
 
 lines-few : (c : tie.After-lines-of) → c .lines-of .result ≤ 64
 lines-few c =
-    let s = c .before .before .before .before .before .before .before in
+    let s = c .before .before .before .before .before in
     let b = s .args .b in
-    let z = sizes _ _ _ _ _ _ (s .pre .passed) in
+    let z = sizes _ _ _ _ _ _ (s .pre .0 .passed) in
     lines-most (b .transposed) (b .width) (b .height) 64 (c .lines-of .ensures) (z .sides .0 .1) (z .sides .1 .1)
-
-orders-requires : tie.Need-orders-requires
-orders-requires c κs = search needs
-
-codes-requires : tie.Need-codes-requires
-codes-requires c κs = search needs
 
 lines-of-requires : tie.Need-lines-of-requires
 lines-of-requires c κs = search needs
 
 mul-cells : tie.Need-mul-cells
-mul-cells c = record { fits = lt-of-le-of-lt (cells-few (c .before .before .before .before .before .before .before .before)) (lit< tt) }
+mul-cells c = record { fits = lt-of-le-of-lt (cells-few (c .before .before .before .before .before .before)) (lit< tt) }
 
 array-borrow-prefix-cells : tie.Need-array-borrow-prefix-cells
-array-borrow-prefix-cells c = cells-few (c .before .before .before .before .before .before .before .before)
+array-borrow-prefix-cells c = cells-few (c .before .before .before .before .before .before)
 
 slice-aggregate-read-rest : tie.Need-slice-aggregate-read-rest
-slice-aggregate-read-rest c =
-    let s = c .before .before .before .before .before .before .before .before .before in
-    sym (length-take-le {A = ℕ} _ (replicate 4096 0) (cells-few s))
+slice-aggregate-read-rest c = sym (length-take-le {A = ℕ} _ (replicate 4096 0) (cells-few (c .before .before .before .before .before .before .before)))
 
 array-borrow-prefix-lines : tie.Need-array-borrow-prefix-lines
 array-borrow-prefix-lines c = lines-few (c .before .before)
@@ -53,16 +45,18 @@ slice-aggregate-read-rest-3 c = search needs
 
 read-rest-requires : tie.Need-read-rest-requires
 read-rest-requires c κs =
-    let l = c .before .before .before .before .before .before .before .before in
-    let s = l .before .before .before .before .before .before .before in
+    let far = c .before .before .before .before .before .before .before .before .before .before in
+    let l = c .before .before .before .before .before .before in
+    let s = far .before in
     let b = s .args .b in
     let count = l .lines-of .ensures ∙ sym (lines-are (b .width) (b .height) (b .transposed) .0) in (
-      s .pre,
+      s .pre .0,
       (
         take-zeros _ 4096 (cells-few s),
         take-zeros _ 64 (lines-few l) ∙ ap (λ k. replicate {A = ℕ} k 0) count,
         omega (arith, length-replicate {A = ℕ} 4234 0),
-        record { order = l .before .before .orders .ensures; code = l .before .codes .ensures },
+        s .pre .1,
+        s .pre .2,
       ),
     )
 
@@ -79,8 +73,6 @@ pub read-aside-spec : {M : Type 1} → statement M
 read-aside-spec =
     tie.close
     (tie.spec
-    orders-requires
-    codes-requires
     lines-of-requires
     mul-cells
     array-borrow-prefix-cells

@@ -6,7 +6,7 @@ use borrow.Author.Needs.{needs}
 use borrow.Author.Tests.{not-true, not-false}
 use Rattle.reader.specs.Steps.{told}
 use Rattle.reading.specs.Reading.{readPalette}
-use Rattle.reading.proofs.Answers.{reads-refused, reads-back, settled-fault, settled-more, settled-other, settled-back, copied}
+use Rattle.reading.proofs.Answers.{reads-refused, reads-back, settled-fault, settled-more, settled-other, settled-back}
 use Rattle.reading.proofs.Ahead.{made, lines-ready, cells-room, lines-room, palette-told, answer-is}
 use Rattle.reading.proofs.read_rest.Statement.{statement}
 use Rattle.reading.proofs.read_rest.Tie as tie
@@ -50,9 +50,9 @@ scan-of-requires c κs = search needs
 read-lines-requires : tie.Need-read-lines-requires
 read-lines-requires c κs =
     let s = c .before .before .before .before .before .before .before .before .before .before in
-    let ready = lines-ready (s .args .b) (s .args .cache .now) (s .args .words .now) (length (s .args .map .now)) (length (s .args .flags .now))
-    (s .pre .0) _ _ _ (c .before .before .scan-of .ensures) (s .pre .1 .0) (s .pre .1 .1) in
-    (ready .0, (ready .1 .0, ready .1 .1, ready .1 .2, s .pre .1 .3))
+    let r = lines-ready (s .args .b) (s .args .cache .now) (s .args .words .now) (length (s .args .map .now)) (length (s .args .flags .now)) (s .pre .0) _ _ _
+    (c .before .before .scan-of .ensures) (s .pre .1 .0) (s .pre .1 .1) in
+    (r .0, (r .1 .0, r .1 .1, r .1 .2, s .pre .1 .3, s .pre .1 .4))
 
 refuse-requires : tie.Need-refuse-requires
 refuse-requires c κs = search needs
@@ -120,21 +120,9 @@ returns-3 c =
     (c .before .before .before .before .before .before .before .before .if2 .left) other)
     (c .refuse3 .ensures)
 
-copy-bytes-requires : tie.Need-copy-bytes-requires
-copy-bytes-requires c κs =
-    let far = c .before .before .before .before .before .before .before .before .before .before in (
-      omega arith,
-      cells-fit
-          (far .before .before .before .before .before .before .before),
-    )
-
-copy-bytes-requires-2 : tie.Need-copy-bytes-requires-2
-copy-bytes-requires-2 c κs =
-    let far = c .before .before .before .before .before .before .before .before .before .before in (
-      omega arith,
-      lines-fit
-          (far .before .before .before .before .before .before .before .before .before .before .before .before),
-    )
+deliver-requires : tie.Need-deliver-requires
+deliver-requires c κs =
+    let r = c .before .before .before .before .before .before .before .before .before .before .before .before .before .before .before .before .before .before .before in (cells-fit r, lines-fit r)
 
 same-length-8 : tie.Need-same-length-8
 same-length-8 c = search needs
@@ -153,20 +141,20 @@ same-length-12 c = search needs
 
 returns-4 : tie.Need-returns-4
 returns-4 c =
-    let far = c .before .before .before .before .before .before .before .before .before .before in
-    let r = far .before .before .before .before .before .before .before .before .before .before .before .before .before .before .before .before in
+    let d = c .before .before .before .before .deliver in
+    let r = c .before .before .before .before .before .before .before .before .before .before .before .before .before .before .before .before .before .before .before .before .before .before .before .before in
     let s = r .before .before .before .before .before .before .before .before .before .before .before in
-    let same = sym (far .before .before .before .before .relists .ensures) ∙ not-false _ (far .before .if3 .left) in
+    let same = sym
+    (c .before .before .before .before .before .before .before .before .before .before .before .before .relists .ensures) ∙ not-false _
+    (c .before .before .before .before .before .before .before .before .before .if3 .left) in
     reads-back _ (made (s .args .b) (s .args .cache .now) (s .args .words .now) (length (s .args .map .now)) (length (s .args .flags .now))
     (s .pre .0) (r .read-lines .last .1 .1 .0) (r .read-lines .last .1 .1 .1 .0)) _ _ _ _ _
     (settled-back (s .args .b .width) (s .args .b .height) (s .args .b .bd) (s .args .cache .now) (length (s .args .map .now))
     (length (s .args .flags .now)) (s .args .words .now) (s .pre .0 .passed) _ (r .read-lines .result) (told-palette r)
-    (far .before .before .before .before .before .before .before .before .before .before .if1 .left)
-    (far .before .before .before .before .before .before .before .before .if2 .left) same)
-    (answer-is (s .args .b) (s .args .cache .now) (s .args .words .now) (length (s .args .map .now)) (length (s .args .flags .now)) (s .pre .0)
-    (r .read-lines .last .1 .1 .0) (r .read-lines .last .1 .1 .1 .0))
-    (copied _ _ _ (c .before .before .before .before .before .before .before .before .copy-bytes .ensures) (cells-fit r))
-    (copied _ _ _ (c .before .before .before .copy-bytes2 .ensures) (lines-fit r))
+    (c .before .before .before .before .before .before .before .before .before .before .before .before .before .before .before .before .before .before .if1 .left) (c .before .before .before .before .before .before .before .before .before .before .before .before .before .before .before .before .if2 .left) same)
+    (d .ensures .1 ∙ answer-is (s .args .b) (s .args .cache .now) (s .args .words .now) (length (s .args .map .now)) (length (s .args .flags .now))
+    (s .pre .0) (r .read-lines .last .1 .1 .0) (r .read-lines .last .1 .1 .1 .0))
+    (d .ensures .0 .0) (d .ensures .0 .1)
 
 pub read-rest-spec : {M : Type 1} → statement M
 read-rest-spec =
@@ -188,8 +176,7 @@ read-rest-spec =
     same-length-6
     same-length-7
     returns-3
-    copy-bytes-requires
-    copy-bytes-requires-2
+    deliver-requires
     same-length-8
     same-length-9
     same-length-10

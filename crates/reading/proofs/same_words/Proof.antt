@@ -10,6 +10,7 @@ use Rattle.lists.proofs.Same.{same-none, same-split, same-end}
 use Rattle.reading.proofs.same_words.Statement.{statement}
 use Rattle.reading.proofs.same_words.Tie as tie
 
+-- so far the same, and what is left too
 abbrev Inv-loop : tie.InvT-loop
 Inv-loop aside count words same₀ i₀ same i =
     (i ≤ count) × (same && sameList (drop i (take count aside)) (drop i words) ≡ sameList (take count aside) words)
@@ -17,11 +18,11 @@ Inv-loop aside count words same₀ i₀ same i =
 abbrev μ-loop : tie.MeasureT-loop
 μ-loop aside count words same₀ i₀ same i = count - i
 
-and-assoc : (a b c : Bool) → (a && b) && c ≡ a && (b && c)
-and-assoc true b c = refl
-and-assoc false b c = refl
+and-next : (a b c : Bool) → (a && b) && c ≡ a && (b && c)
+and-next true b c = refl
+and-next false b c = refl
 
-and-true : (a : Bool) → a ≡ a && true
+and-true : (a : Bool) → a && true ≡ a
 and-true true = refl
 and-true false = refl
 
@@ -60,15 +61,15 @@ loop-again c =
     let l = c .before .before .before .loop in
     let split = same-split (a .aside .now) (a .words .now) (a .count) (l .i) (s .pre) (c .before .before .before .before .if1 .left)
     (c .before .before .loop-test .taken) in
-    (search needs, and-assoc (l .same) _ _ ∙ sym (ap (λ (b : Bool). l .same && b) split) ∙ l .inv .1)
+    (search needs, and-next (l .same) _ _ ∙ ap (λ (b : Bool). l .same && b) (sym split) ∙ l .inv .1)
 
 returns-2 : tie.Need-returns-2 Inv-loop μ-loop
 returns-2 c =
-    let s = c .before .before .before in
-    let a = s .args in
+    let a = c .before .before .before .args in
     let l = c .before .loop in
-    let end = same-end (a .aside .now) (a .words .now) (a .count) (l .i) (s .pre) (c .before .before .if1 .left) (c .loop-test .left) in
-    and-true (l .same) ∙ sym (ap (λ (b : Bool). l .same && b) end) ∙ l .inv .1
+    let end = same-end (a .aside .now) (a .words .now) (a .count) (l .i) (c .before .before .before .pre) (c .before .before .if1 .left)
+    (c .loop-test .left) in
+    sym (and-true (l .same)) ∙ ap (λ (b : Bool). l .same && b) (sym end) ∙ l .inv .1
 
 pub same-words-spec : {M : Type 1} → statement M
 same-words-spec =
