@@ -25,8 +25,8 @@ rows : (c : tie.After-guess-rows) → length (c .guess-rows .last .1 .1 .0) ≡ 
     (c .before .before .before .before .before .before .before .before .before .before .before .before .before .before .before .before)
 rows c = c .guess-rows .kept .1 .1 .0 ∙ three (c .before .before .before .before)
 
-four : (c : tie.After-guess-cells4) → length (c .guess-cells4 .last .1 .1 .0) ≡ whole
-    (c .before .before .before .before .before .before .before .before .before .before .before .before .before .before .before .before .before .before .before .before)
+four : (c : tie.After-guess-cells4) → let far = c .before .before .before .before .before .before .before .before .before .before .before .before in
+    length (c .guess-cells4 .last .1 .1 .0) ≡ whole (far .before .before .before .before .before .before .before .before)
 four c = c .guess-cells4 .kept .1 .1 .0 ∙ rows (c .before .before .before .before)
 
 -- three rows, with one above
@@ -90,32 +90,34 @@ guess-rows-requires c κs =
 
 add-guess-cells-3 : tie.Need-add-guess-cells-3
 add-guess-cells-3 c =
-    let p = c .before .before .before .before .before .before .before .before .before .before .before .before .before .before .before .before .before .before .before .pre .0 in omega (arith, p .2, p .0 .few)
+    let far = c .before .before .before .before .before .before .before .before .before .before .before .before in
+    let p = far .before .before .before .before .before .before .before .pre .0 in omega (arith, p .2, p .0 .few)
 
 sub-guess-cells : tie.Need-sub-guess-cells
 sub-guess-cells c = search needs
 
 guess-cells-requires-4 : tie.Need-guess-cells-requires-4
 guess-cells-requires-4 c κs =
-    let s = c .before .before .before .before .before .before .before .before .before .before .before .before .before .before .before .before .before .before .before in
+    let far = c .before .before .before .before .before .before .before .before .before .before .before .before in
+    let s = far .before .before .before .before .before .before .before in
     let p = s .pre in
     let d = c .before .before .before in
     ((rw (rows d) (p .0 .0), omega (arith, p .0 .2), omega (arith, p .0 .3), omega (arith, p .1 .0, p .0 .3)), (d .guess-rows .ensures, p .1 .1 .1, p .1 .1 .2))
 
 add-guess-cells-4 : tie.Need-add-guess-cells-4
 add-guess-cells-4 c =
-    let p = c .before .before .before .before .before .before .before .before .before .before .before .before .before .before .before .before .before .before .before .before .before .before .before .pre .0 in omega (arith, p .2, p .0 .few)
+    let far = c .before .before .before .before .before .before .before .before .before .before .before .before in
+    let p = far .before .before .before .before .before .before .before .before .before .before .before .pre .0 in omega (arith, p .2, p .0 .few)
 
 sub-guess-cells-2 : tie.Need-sub-guess-cells-2
 sub-guess-cells-2 c =
-    omega (
-      arith,
-      c .before .before .before .before .before .before .before .before .before .before .before .before .before .before .before .before .before .before .before .before .before .before .before .pre .0 .3,
-    )
+    let far = c .before .before .before .before .before .before .before .before .before .before .before .before in
+    omega (arith, far .before .before .before .before .before .before .before .before .before .before .before .pre .0 .3)
 
 guess-cells-requires-5 : tie.Need-guess-cells-requires-5
 guess-cells-requires-5 c κs =
-    let s = c .before .before .before .before .before .before .before .before .before .before .before .before .before .before .before .before .before .before .before .before .before .before .before in
+    let far = c .before .before .before .before .before .before .before .before .before .before .before .before in
+    let s = far .before .before .before .before .before .before .before .before .before .before .before in
     let p = s .pre in
     let d = c .before .before .before in (
       (rw (four d) (p .0 .0), omega (arith, p .0 .2), omega (arith, p .0 .3), omega (arith, p .1 .0, p .0 .3)),

@@ -44,7 +44,8 @@ relists-requires c κs =
 
 read-aside-requires : tie.Need-read-aside-requires
 read-aside-requires c κs =
-    let p = c .before .before .before .before .before .before .before .before .before .before .before .before .before .before .before .before .before .before .before .before .before .before .before .before .pre in (p .0, p .1 .3, p .1 .4)
+    let far = c .before .before .before .before .before .before .before .before .before .before .before .before in
+    let p = far .before .before .before .before .before .before .before .before .before .before .before .before .pre in (p .0, p .1 .3, p .1 .4)
 
 same-length : tie.Need-same-length
 same-length c = search needs
@@ -67,7 +68,8 @@ returns c = c .before .before .before .before .read-aside .ensures
 deliver-requires : tie.Need-deliver-requires
 deliver-requires c κs =
     let g = c .before .before .before .before .before .before .before .before .before .before .before .before .before .before .before .guess-lines in
-    let s = c .before .before .before .before .before .before .before .before .before .before .before .before .before .before .before .before .before .before .before .before .before .before .before .before .before .before in
+    let far = c .before .before .before .before .before .before .before .before .before .before .before .before in
+    let s = far .before .before .before .before .before .before .before .before .before .before .before .before .before .before in
     let b = s .args .b in
     let cells = cells-room b (s .args .cache .now) (s .args .words .now) (length (s .args .map .now)) (length (s .args .flags .now)) (s .pre .0) _
     (s .pre .1 .0) in
@@ -93,8 +95,11 @@ same-length-10 c = search needs
 returns-2 : tie.Need-returns-2
 returns-2 c =
     let d = c .before .before .before .before .deliver in
-    let g = c .before .before .before .before .before .before .before .before .before .before .before .before .before .before .before .before .before .before .before .before .guess-lines in
-    let s = c .before .before .before .before .before .before .before .before .before .before .before .before .before .before .before .before .before .before .before .before .before .before .before .before .before .before .before .before .before .before .before in
+    let far = c .before .before .before .before .before .before .before .before .before .before .before .before in
+    let g = far .before .before .before .before .before .before .before .before .guess-lines in
+    let far = c .before .before .before .before .before .before .before .before .before .before .before .before in
+    let farther = far .before .before .before .before .before .before .before .before .before .before .before .before in
+    let s = farther .before .before .before .before .before .before .before in
     let b = s .args .b in
     let p = made b (s .args .cache .now) (s .args .words .now) (length (s .args .map .now)) (length (s .args .flags .now)) (s .pre .0)
     (g .last .1 .1 .0) (g .last .1 .1 .1 .0) in

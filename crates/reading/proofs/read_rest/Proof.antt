@@ -122,7 +122,8 @@ returns-3 c =
 
 deliver-requires : tie.Need-deliver-requires
 deliver-requires c κs =
-    let r = c .before .before .before .before .before .before .before .before .before .before .before .before .before .before .before .before .before .before .before in (cells-fit r, lines-fit r)
+    let far = c .before .before .before .before .before .before .before .before .before .before .before .before in
+    let r = far .before .before .before .before .before .before .before in (cells-fit r, lines-fit r)
 
 same-length-8 : tie.Need-same-length-8
 same-length-8 c = search needs
@@ -142,16 +143,17 @@ same-length-12 c = search needs
 returns-4 : tie.Need-returns-4
 returns-4 c =
     let d = c .before .before .before .before .deliver in
-    let r = c .before .before .before .before .before .before .before .before .before .before .before .before .before .before .before .before .before .before .before .before .before .before .before .before in
+    let far = c .before .before .before .before .before .before .before .before .before .before .before .before in
+    let r = far .before .before .before .before .before .before .before .before .before .before .before .before in
     let s = r .before .before .before .before .before .before .before .before .before .before .before in
     let same = sym
-    (c .before .before .before .before .before .before .before .before .before .before .before .before .relists .ensures) ∙ not-false _
+    (far .relists .ensures) ∙ not-false _
     (c .before .before .before .before .before .before .before .before .before .if3 .left) in
     reads-back _ (made (s .args .b) (s .args .cache .now) (s .args .words .now) (length (s .args .map .now)) (length (s .args .flags .now))
     (s .pre .0) (r .read-lines .last .1 .1 .0) (r .read-lines .last .1 .1 .1 .0)) _ _ _ _ _
     (settled-back (s .args .b .width) (s .args .b .height) (s .args .b .bd) (s .args .cache .now) (length (s .args .map .now))
     (length (s .args .flags .now)) (s .args .words .now) (s .pre .0 .passed) _ (r .read-lines .result) (told-palette r)
-    (c .before .before .before .before .before .before .before .before .before .before .before .before .before .before .before .before .before .before .if1 .left) (c .before .before .before .before .before .before .before .before .before .before .before .before .before .before .before .before .if2 .left) same)
+    (far .before .before .before .before .before .before .if1 .left) (far .before .before .before .before .if2 .left) same)
     (d .ensures .1 ∙ answer-is (s .args .b) (s .args .cache .now) (s .args .words .now) (length (s .args .map .now)) (length (s .args .flags .now))
     (s .pre .0) (r .read-lines .last .1 .1 .0) (r .read-lines .last .1 .1 .1 .0))
     (d .ensures .0 .0) (d .ensures .0 .1)
