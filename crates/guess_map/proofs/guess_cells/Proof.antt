@@ -1,59 +1,60 @@
-use Prim.Native.Nat.{_+_, _-_, _<_}
-use mathlib.Core.Path.{_≡_, refl, _∙_}
 use native.Mathlib.Omega.{arith}
-use lib.ListN.{length}
 use borrow.Author.Needs.{needs}
-use Rattle.near.specs.Near.{Below}
+use Rattle.lists.proofs.Zeros.{zeros-below}
 use Rattle.guess_map.proofs.guess_cells.Statement.{statement}
 use Rattle.guess_map.proofs.guess_cells.Tie as tie
 
-abbrev Inv-loop : tie.InvT-loop
-Inv-loop words at map₀ s l from to orders codes a₀ map a = (length map ≡ length map₀) × Below map 8
+guess-first-requires : tie.Need-guess-first-requires
+guess-first-requires c κs = search needs
 
-abbrev μ-loop : tie.MeasureT-loop
-μ-loop words at map₀ s l from to orders codes a₀ map a = to - a
+same-length : tie.Need-same-length
+same-length c = search needs
 
-loop-holds : tie.Need-loop-holds Inv-loop μ-loop
-loop-holds c = (refl, c .before .before .pre .1 .0)
+returns : tie.Need-returns
+returns c = search needs
 
-add-guess-cell : tie.Need-add-guess-cell Inv-loop μ-loop
-add-guess-cell c = search needs
-
-guess-cell-requires : tie.Need-guess-cell-requires Inv-loop μ-loop
-guess-cell-requires c κs =
+fill-rows-requires : tie.Need-fill-rows-requires
+fill-rows-requires c κs =
     let p = c .before .before .before .before .before .pre in
-    let l = c .before .before .loop in
-    let h : c .before .before .before .before .before .args .at + l .a < length (c .before .before .before .before .before .args .words .now) = omega arith in
-    ((rw (l .inv .0) (p .0 .0), p .0 .1, omega (arith, c .before .loop-test .taken, p .0 .2), h), (l .inv .1, p .1 .1, p .1 .2))
+    (p .0, omega (arith, c .before .before .if1 .left), p .1, p .2, p .3, λ i. zeros-below 64 512 i (omega arith))
 
-add-a : tie.Need-add-a Inv-loop μ-loop
-add-a c = search needs
+first-before-requires : tie.Need-first-before-requires
+first-before-requires c κs = search needs
 
-loop-less : tie.Need-loop-less Inv-loop μ-loop
-loop-less c = search needs
+mul-beside : tie.Need-mul-beside
+mul-beside c = search needs
 
-loop-again : tie.Need-loop-again Inv-loop μ-loop
-loop-again c =
-    let g = c .before .before .guess-cell in
-    (g .kept .1 .1 .0 ∙ c .before .before .before .before .before .loop .inv .0, g .ensures)
+shared-slice-read-beside : tie.Need-shared-slice-read-beside
+shared-slice-read-beside c = search needs
 
-same-length : tie.Need-same-length Inv-loop μ-loop
-same-length c = c .before .loop .inv .0
+beside-requires : tie.Need-beside-requires
+beside-requires c κs = search needs
 
-returns : tie.Need-returns Inv-loop μ-loop
-returns c = c .before .loop .inv .1
+follow-requires : tie.Need-follow-requires
+follow-requires c κs = search needs
+
+put-line-requires : tie.Need-put-line-requires
+put-line-requires c κs = search needs
+
+same-length-2 : tie.Need-same-length-2
+same-length-2 c = search needs
+
+returns-2 : tie.Need-returns-2
+returns-2 c = search needs
 
 pub guess-cells-spec : {M : Type 1} → statement M
 guess-cells-spec =
     tie.close
     (tie.spec
-    Inv-loop
-    μ-loop
-    loop-holds
-    add-guess-cell
-    guess-cell-requires
-    add-a
-    loop-less
-    loop-again
+    guess-first-requires
     same-length
-    returns)
+    returns
+    fill-rows-requires
+    first-before-requires
+    mul-beside
+    shared-slice-read-beside
+    beside-requires
+    follow-requires
+    put-line-requires
+    same-length-2
+    returns-2)

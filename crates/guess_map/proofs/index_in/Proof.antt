@@ -1,6 +1,6 @@
+use borrow.Author.Needs.{needs}
 use Rattle.guess_map.proofs.index_in.Statement.{statement}
 use Rattle.guess_map.proofs.index_in.Tie as tie
-use borrow.Author.Needs.{needs}
 
 shared-slice-read-t4 : tie.Need-shared-slice-read-t4
 shared-slice-read-t4 c = search needs
