@@ -139,7 +139,8 @@ fn index_at(map: &[u8], width: usize, transposed: bool, l: usize, a: usize) -> I
     Index(map[l * width + a])
 }
 
-// Whether line l equals line `other` place by place (step 1), or the first place of `other` throughout (step 0).
+// Whether line l equals line `other` place by place (step 1), or the first place of `other` throughout (step 0). It looks at
+// all places: without a way out the loop is quicker.
 fn line_matches(
     map: &[u8],
     width: usize,
@@ -155,16 +156,15 @@ fn line_matches(
         (lineCell transposed (now (map .entry)) width other (a * step))) (lengthOf transposed width height) ⌝ }
 {
     let len = context::length_of(transposed, width, height);
+    let mut same = true;
     let mut a: usize = 0;
     while a < len {
         let here = index_at(map, width, transposed, l, a);
         let there = index_at(map, width, transposed, other, a * step);
-        if here.0 != there.0 {
-            return false;
-        }
+        same = same & (here.0 == there.0);
         a += 1;
     }
-    true
+    same
 }
 
 // Whether line l is as its flag says.
