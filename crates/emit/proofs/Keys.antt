@@ -9,6 +9,8 @@ use lib.Dec.{eqb}
 use lib.ListN.{length, getD, set}
 use lib.Seq.{getD-set-same, getD-set-other}
 use borrow.Author.Tests.{ne-eqb, eqb-true, eqb-false}
+use Rattle.lists.specs.Written.{written}
+use Rattle.lists.proofs.Written.{written-next}
 use Rattle.context.specs.Map.{cell, rowAt, colAt}
 use Rattle.context.specs.Order.{Around, byThree, around, rankOf}
 use Rattle.context.proofs.Around.{three-ctx, around-ctx}
@@ -19,7 +21,7 @@ use Rattle.near.specs.Near.{threeKey, keyAt, Below, Keyed}
 use Rattle.near.proofs.Keys.{three-keyed, keyed, key-rank, key-rank-below}
 use Rattle.literals.specs.Words.{word}
 use Rattle.emit.specs.Map.{rankedWord, cellWord, LinesInside}
-use Rattle.emit.specs.Keys.{keyOf, Inner, Coded}
+use Rattle.emit.specs.Keys.{keyOf, Inner, Coded, Extends}
 
 -- past the end stands 0
 pub below-all : (m : List ℕ) (n : ℕ) → 0 < n → ((i : ℕ) → i < length m → getD m i 0 < n) → Below m n
@@ -146,3 +148,14 @@ rows-inner m w n (suc (suc l)) count from i h e a g k =
 
 pub below-eight : {m : List ℕ} {w n : ℕ} {t : Bool} {lines len : ℕ} → LinesInside m w n t lines len → Below m 8
 below-eight {m} {w} {n} i j = omega (arith, below-all m n (omega (arith, i .two)) (i .below) j, i .eight)
+
+-- ---- the words of keys
+
+-- one word more, and two runs of words
+module _ (g : ℕ → ℕ) (from k at : ℕ) (old new : List ℕ) (h : from ≤ k) (first : Extends g from k at old new) where
+  pub extends-next : (v : ℕ) → v ≡ g k → Extends g from (k + 1) at old (set new (at + k) v)
+  unfolding written
+  extends-next v e f same start s = rw (first f (λ a i j. same a i (omega arith)) start s, e, same k h (omega arith)) (written-next f start at k)
+
+  pub extends-then : (to : ℕ) (last : List ℕ) → k ≤ to → Extends g k to at new last → Extends g from to at old last
+  extends-then to last i second f same start s = second f (λ a p q. same a (omega arith) q) start (first f (λ a p q. same a p (omega arith)) start s)

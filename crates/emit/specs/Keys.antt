@@ -3,8 +3,10 @@
 use Prim.Native.Nat.{ℕ, _+_, _-_, _*_, _/_, _%_, _≤_, _<_}
 use mathlib.Core.Path.{_≡_}
 use mathlib.Core.Bool.{Bool}
-use mathlib.Core.List.{List}
+use mathlib.Core.List.{List, [], _∷_}
 use lib.ListN.{getD}
+use Rattle.lists.specs.Counted.{upTo}
+use Rattle.lists.specs.Written.{written}
 use Rattle.context.specs.Map.{rowAt, colAt}
 use Rattle.rows.specs.Rows.{rowOf, codeTable}
 use Rattle.literals.specs.Words.{word}
@@ -31,3 +33,18 @@ CodeWords n words = (c : ℕ) → c < 40 → getD words c 0 ≡ word 5 ((n - 2) 
 pub record Coded (n : ℕ) (codes words : List ℕ) : Type 0 where
   pub table : codes ≡ codeTable
   pub each : CodeWords n words
+
+-- the keys from `from` to before `to` are places of the table, and the codes there have words
+abbrev pub Readable : List ℕ → List ℕ → ℕ → ℕ → Type 0
+Readable codes keys from to = (a : ℕ) → from ≤ a → a < to → (getD keys a 0 < 4096) × (getD codes (getD keys a 0) 0 < 40)
+
+-- the word by the key at a place
+abbrev pub wordBy : List ℕ → List ℕ → List ℕ → ℕ → ℕ
+wordBy codes words keys a = getD words (getD codes (getD keys a 0) 0) 0
+
+-- the words g from `from` to before `to` were put behind those before them: for any words f that are g there, a buffer that had
+-- the first `from` of them at `at` has the first `to`
+abbrev pub Extends : (ℕ → ℕ) → ℕ → ℕ → ℕ → List ℕ → List ℕ → Type 0
+Extends g from to at old new =
+    (f : ℕ → ℕ) → ((a : ℕ) → from ≤ a → a < to → g a ≡ f a) → (start : List ℕ)
+    → old ≡ written start at (upTo (λ a. f a ∷ []) from) → new ≡ written start at (upTo (λ a. f a ∷ []) to)

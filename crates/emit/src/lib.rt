@@ -18,7 +18,7 @@ ghost use Rattle.literals.specs.Words.{word};
 ghost use Rattle.literals.specs.Literals.{levelsOk};
 ghost use Rattle.emit.specs.Colors.{remove, cacheWords, untaken, colorWords};
 ghost use Rattle.emit.specs.Map.{LinesInside, cellWord, lineWord, sentCells, lineWords, orientWords, mapWords};
-ghost use Rattle.emit.specs.Keys.{keyOf, Inner, KeysAt, KeysIn, CodeWords, Coded};
+ghost use Rattle.emit.specs.Keys.{keyOf, Inner, KeysAt, KeysIn, CodeWords, Coded, Readable, wordBy, Extends};
 
 // The colours that no cache entry took: the first `count` places.
 pub struct Left {
@@ -274,7 +274,28 @@ fn word_at(codes: &[u8; 4096], words: &[u32; 40], key: u16) -> u32
     words[code as usize]
 }
 
-// The words of line l by the keys of its cells; the first has none.
+// The words of the cells from `from` to before `to` of a line, by their keys.
+fn emit_keys(
+    codes: &[u8; 4096],
+    words: &[u32; 40],
+    keys: &[u16],
+    from: usize,
+    to: usize,
+    out: &mut [u32],
+    at: usize,
+)
+    requires { ⌜ (from ≤ to) × (to ≤ length (now keys)) × (at + to ≤ length (now out)) × (Readable (now codes) (now keys) from to) ⌝ }
+    ensures { λ _. ⌜ Extends (wordBy (now (codes .entry)) (now (words .entry)) (now (keys .entry))) from to at
+        (now (out .entry)) (now (out .exit)) ⌝ }
+{
+    let mut a = from;
+    while a < to {
+        out[at + a] = word_at(codes, words, keys[a]);
+        a += 1;
+    }
+}
+
+// The words of line l by the keys of its cells; the first has none. Eight at a time: a loop of known length is unrolled.
 fn emit_keyed(
     map: &[u8],
     codes: &[u8; 4096],
@@ -297,10 +318,11 @@ fn emit_keyed(
 {
     out[at] = line_word(map, codes, w, n, transposed, l, 0);
     let mut a: usize = 1;
-    while a < count {
-        out[at + a] = word_at(codes, words, keys[a]);
-        a += 1;
+    while a + 8 <= count {
+        emit_keys(codes, words, keys, a, a + 8, out, at);
+        a += 8;
     }
+    emit_keys(codes, words, keys, a, count, out, at);
     at + count
 }
 
