@@ -162,41 +162,54 @@ fn read_rest(
     deliver(b, cells, lines, map, flags)
 }
 
-// As `read_behind`, with both tables lent, and with room aside for cells, flags and the list.
-fn read_aside(
+// Fills with zeros.
+fn clear(bytes: &mut [u8])
+    ensures { λ _. ⌜ now (bytes .exit) ≡ replicate (length (now (bytes .entry))) 0 ⌝ }
+{
+    let mut i: usize = 0;
+    while i < bytes.len() {
+        bytes[i] = 0;
+        i += 1;
+    }
+}
+
+// As `read_behind`, word by word, over what a guess has left in cells and lines.
+fn read_words(
     b: Head,
     cache: &[u16],
     words: &[u32],
+    cells: &mut [u8],
+    lines: &mut [u8],
+    aside: &mut [u32],
     map: &mut [u8],
     flags: &mut [u8],
-    orders: &[u8; 4096],
-    codes: &[u8; 4096],
 ) -> Palette
-    requires { ⌜ Headed b (now cache) (now words) (length (now map)) (length (now flags)) × (now orders ≡ orderTable)
-        × (now codes ≡ codeTable) ⌝ }
+    requires { ⌜ Headed b (now cache) (now words) (length (now map)) (length (now flags)) ⌝ }
+    requires { ⌜ (length (now cells) ≡ b .width * b .height) × (length (now lines) ≡ scanOf (b .width) (b .height) (b .transposed) .lines)
+        × (4234 ≤ length (now aside)) ⌝ }
     ensures { λ r. ⌜ Reads
         (reading (b .width) (b .height) (b .bd) (now (cache .entry)) (length (now (map .entry))) (length (now (flags .entry))) (now (words .entry)))
         (now (map .entry)) (now (map .exit)) (now (flags .entry)) (now (flags .exit)) r ⌝ }
 {
-    let mut cells = [0u8; 4096];
-    let mut lines = [0u8; 64];
-    let mut aside = [0u32; 4234];
-    let count = context::lines_of(b.transposed, b.width, b.height);
+    clear(cells);
+    clear(lines);
+    let orders = rows::orders();
+    let codes = rows::codes();
     read_rest(
         b,
         cache,
         words,
-        &mut cells[..b.width * b.height],
-        &mut lines[..count],
-        &mut aside,
+        cells,
+        lines,
+        aside,
         map,
         flags,
-        orders,
-        codes,
+        &orders,
+        &codes,
     )
 }
 
-// As `read_behind`, with both tables and room aside lent. What is guessed and listed to the same words is what the list says; only
+// As `read_behind`, with the table and room aside lent. What is guessed and listed to the same words is what the list says; only
 // a list that is not is read word by word, for its number.
 fn read_guessed(
     b: Head,
@@ -207,37 +220,34 @@ fn read_guessed(
     aside: &mut [u32],
     map: &mut [u8],
     flags: &mut [u8],
-    orders: &[u8; 4096],
-    codes: &[u8; 4096],
+    nexts: &[u8; 4096],
 ) -> Palette
     requires { ⌜ Headed b (now cache) (now words) (length (now map)) (length (now flags)) ⌝ }
     requires { ⌜ (now cells ≡ replicate (b .width * b .height) 0) × (now lines ≡ replicate (scanOf (b .width) (b .height) (b .transposed) .lines) 0)
-        × (4234 ≤ length (now aside)) × (now orders ≡ orderTable) × (now codes ≡ codeTable) ⌝ }
+        × (4234 ≤ length (now aside)) ⌝ }
     ensures { λ r. ⌜ Reads
         (reading (b .width) (b .height) (b .bd) (now (cache .entry)) (length (now (map .entry))) (length (now (flags .entry))) (now (words .entry)))
         (now (map .entry)) (now (map .exit)) (now (flags .entry)) (now (flags .exit)) r ⌝ }
 {
     let s = scan::scan_of(b.width, b.height, b.transposed);
-    guess_map::guess_lines(words, b.at, cells, lines, s, orders, codes);
+    guess_map::guess_lines(words, b.at, cells, lines, s, nexts);
     let listed = relists(b, cells, lines, cache, words, aside);
     if !listed {
-        return read_aside(b, cache, words, map, flags, orders, codes);
+        return read_words(b, cache, words, cells, lines, aside, map, flags);
     }
     deliver(b, cells, lines, map, flags)
 }
 
-// As `read_behind`, with both tables lent.
+// As `read_behind`, with the table lent.
 fn read_by(
     b: Head,
     cache: &[u16],
     words: &[u32],
     map: &mut [u8],
     flags: &mut [u8],
-    orders: &[u8; 4096],
-    codes: &[u8; 4096],
+    nexts: &[u8; 4096],
 ) -> Palette
-    requires { ⌜ Headed b (now cache) (now words) (length (now map)) (length (now flags)) × (now orders ≡ orderTable)
-        × (now codes ≡ codeTable) ⌝ }
+    requires { ⌜ Headed b (now cache) (now words) (length (now map)) (length (now flags)) ⌝ }
     ensures { λ r. ⌜ Reads
         (reading (b .width) (b .height) (b .bd) (now (cache .entry)) (length (now (map .entry))) (length (now (flags .entry))) (now (words .entry)))
         (now (map .entry)) (now (map .exit)) (now (flags .entry)) (now (flags .exit)) r ⌝ }
@@ -255,8 +265,7 @@ fn read_by(
         &mut aside,
         map,
         flags,
-        orders,
-        codes,
+        nexts,
     )
 }
 
@@ -267,9 +276,12 @@ fn read_behind(b: Head, cache: &[u16], words: &[u32], map: &mut [u8], flags: &mu
         (reading (b .width) (b .height) (b .bd) (now (cache .entry)) (length (now (map .entry))) (length (now (flags .entry))) (now (words .entry)))
         (now (map .entry)) (now (map .exit)) (now (flags .entry)) (now (flags .exit)) r ⌝ }
 {
-    let orders = rows::orders();
-    let codes = rows::codes();
-    read_by(b, cache, words, map, flags, &orders, &codes)
+    if b.transposed {
+        let nexts = rows::by_top();
+        return read_by(b, cache, words, map, flags, &nexts);
+    }
+    let nexts = rows::by_left();
+    read_by(b, cache, words, map, flags, &nexts)
 }
 
 // Reads a call list back: colours and orientation are returned, map and flags written from the front; or it is refused and

@@ -13,13 +13,13 @@ use Rattle.reading.proofs.read_by.Statement.{statement}
 use Rattle.reading.proofs.read_by.Tie as tie
 
 cells-few : (s : tie.Start) → s .args .b .width * s .args .b .height ≤ 4096
-cells-few s = let z = sizes _ _ _ _ _ _ (s .pre .0 .passed) in mul-le-mul (z .sides .0 .1) (z .sides .1 .1)
+cells-few s = let z = sizes _ _ _ _ _ _ (s .pre .passed) in mul-le-mul (z .sides .0 .1) (z .sides .1 .1)
 
 lines-few : (c : tie.After-lines-of) → c .lines-of .result ≤ 64
 lines-few c =
     let s = c .before .before .before .before .before in
     let b = s .args .b in
-    let z = sizes _ _ _ _ _ _ (s .pre .0 .passed) in
+    let z = sizes _ _ _ _ _ _ (s .pre .passed) in
     lines-most (b .transposed) (b .width) (b .height) 64 (c .lines-of .ensures) (z .sides .0 .1) (z .sides .1 .1)
 
 lines-of-requires : tie.Need-lines-of-requires
@@ -50,13 +50,11 @@ read-guessed-requires c κs =
     let s = far .before in
     let b = s .args .b in
     let count = l .lines-of .ensures ∙ sym (lines-are (b .width) (b .height) (b .transposed) .0) in (
-      s .pre .0,
+      s .pre,
       (
         take-zeros _ 4096 (cells-few s),
         take-zeros _ 64 (lines-few l) ∙ ap (λ k. replicate {A = ℕ} k 0) count,
         omega (arith, length-replicate {A = ℕ} 4234 0),
-        s .pre .1,
-        s .pre .2,
       ),
     )
 

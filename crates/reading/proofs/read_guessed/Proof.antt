@@ -1,23 +1,19 @@
 use Prim.Native.Nat.{ℕ}
-use mathlib.Core.Path.{_≡_, refl, sym, ap, _∙_}
-use mathlib.Core.Bool.{Bool, true, false, true≢false}
+use mathlib.Core.Path.{_≡_, sym, ap, _∙_}
+use mathlib.Core.List.{List}
 use native.Mathlib.Omega.{arith}
-use lib.ListN.{length}
+use lib.ListN.{length, replicate, length-replicate}
 use borrow.Author.Needs.{needs}
 use borrow.Author.Tests.{not-false}
-use Rattle.scan.specs.declared.Scan.{Scan}
-use Rattle.scan.specs.Scan.{scanOf}
 use Rattle.scan.proofs.Fill.{below-8}
-use Rattle.guess_map.specs.Guess.{RowByRow}
 use Rattle.reading.proofs.Answers.{reads-back}
 use Rattle.reading.proofs.Ahead.{made, lines-ready, cells-room, lines-room, answer-is}
 use Rattle.reading.proofs.Undo.{listed-back}
 use Rattle.reading.proofs.read_guessed.Statement.{statement}
 use Rattle.reading.proofs.read_guessed.Tie as tie
 
-row-by-row : (s : Scan) (w h : ℕ) (t : Bool) → s ≡ scanOf w h t → s .transposed ≡ false → RowByRow s
-row-by-row s w h true e f = absurd (true≢false (sym (ap (λ (x : Scan). x .transposed) e) ∙ f))
-row-by-row s w h false e f = rw e (refl, refl)
+length-zeros : (l : List ℕ) (n : ℕ) → l ≡ replicate n 0 → length l ≡ n
+length-zeros l n e = ap (λ (k : List ℕ). length k) e ∙ length-replicate {A = ℕ} n 0
 
 scan-of-requires : tie.Need-scan-of-requires
 scan-of-requires c κs = search needs
@@ -26,26 +22,26 @@ guess-lines-requires : tie.Need-guess-lines-requires
 guess-lines-requires c κs =
     let s = c .before .before .before .before .before .before .before .before .before .before in
     let b = s .args .b in
-    let is = c .before .before .scan-of .ensures in
     let r = lines-ready b (s .args .cache .now) (s .args .words .now) (length (s .args .map .now)) (length (s .args .flags .now)) (s .pre .0)
-    (c .before .before .scan-of .result) (s .args .cells .now) (s .args .lines .now) is (s .pre .1 .0) (s .pre .1 .1) in (
-      (r .0 .0, r .0 .1, row-by-row (c .before .before .scan-of .result) (b .width) (b .height) (b .transposed) is),
-      (
-        below-8 (s .args .cells .now)
-            (b .n) (r .1 .2) (r .1 .1),
-        s .pre .1 .3,
-        s .pre .1 .4,
-      ),
-    )
+    (c .before .before .scan-of .result) (s .args .cells .now) (s .args .lines .now) (c .before .before .scan-of .ensures) (s .pre .1 .0) (s .pre .1 .1) in
+    (r .0 .0, r .0 .1, below-8 (s .args .cells .now) (b .n) (r .1 .2) (r .1 .1))
 
 relists-requires : tie.Need-relists-requires
 relists-requires c κs =
     c .before .before .before .before .before .before .before .before .before .before .before .before .before .before .before .before .before .before .pre .1 .2
 
-read-aside-requires : tie.Need-read-aside-requires
-read-aside-requires c κs =
+read-words-requires : tie.Need-read-words-requires
+read-words-requires c κs =
     let far = c .before .before .before .before .before .before .before .before .before .before .before .before in
-    let p = far .before .before .before .before .before .before .before .before .before .before .before .before .pre in (p .0, p .1 .3, p .1 .4)
+    let g = far .before .before .before .before .guess-lines in
+    let s = far .before .before .before .before .before .before .before .before .before .before .before .before .before .before .before in (
+      s .pre .0,
+      (
+        g .kept .1 .1 .0 ∙ length-zeros (s .args .cells .now) _ (s .pre .1 .0),
+        g .kept .1 .1 .1 .0 ∙ length-zeros (s .args .lines .now) _ (s .pre .1 .1),
+        omega (arith, c .before .before .before .before .before .before .before .before .relists .kept .1 .1 .1 .1 .1 .0, s .pre .1 .2),
+      ),
+    )
 
 same-length : tie.Need-same-length
 same-length c = search needs
@@ -63,7 +59,7 @@ same-length-5 : tie.Need-same-length-5
 same-length-5 c = search needs
 
 returns : tie.Need-returns
-returns c = c .before .before .before .before .read-aside .ensures
+returns c = c .before .before .before .before .before .before .before .before .before .before .read-words .ensures
 
 deliver-requires : tie.Need-deliver-requires
 deliver-requires c κs =
@@ -120,7 +116,7 @@ read-guessed-spec =
     scan-of-requires
     guess-lines-requires
     relists-requires
-    read-aside-requires
+    read-words-requires
     same-length
     same-length-2
     same-length-3
