@@ -8,12 +8,19 @@ ghost use lib.ListN.{length};
 ghost use Rattle.near.specs.Near.{Below};
 ghost use Rattle.scan.specs.Scan.{Sound};
 
-// The row of the neighbours above and diagonal, and of the rank that a word tells, in a table by the neighbour before.
-fn row_at(above: Index, diag: Index, word: u32) -> u16
-    requires { ⌜ (above .0 < 8) × (diag .0 < 8) ⌝ }
-    ensures { λ r. ⌜ r < 512 ⌝ }
+// Where the table's part begins: for lines that are rows, or columns.
+fn part_of(transposed: bool) -> u16
+    ensures { λ r. ⌜ r ≤ 512 ⌝ }
 {
-    (above.0 as u16 * 8 + diag.0 as u16) * 8 + (word % 8) as u16
+    if transposed { 512 } else { 0 }
+}
+
+// The row of the neighbours above and diagonal, and of the rank that a word tells.
+fn row_at(part: u16, above: Index, diag: Index, word: u32) -> u16
+    requires { ⌜ (part ≤ 512) × (above .0 < 8) × (diag .0 < 8) ⌝ }
+    ensures { λ r. ⌜ r < 1024 ⌝ }
+{
+    part + (above.0 as u16 * 8 + diag.0 as u16) * 8 + (word % 8) as u16
 }
 
 fn wide(entry: u8) -> u64
@@ -23,8 +30,8 @@ fn wide(entry: u8) -> u64
 }
 
 // The eight entries of a row as one number, the first lowest: the compiler makes one load of it.
-fn entries(nexts: &[u8; 4096], row: u16) -> u64
-    requires { ⌜ row < 512 ⌝ }
+fn entries(nexts: &[u8; 8192], row: u16) -> u64
+    requires { ⌜ row < 1024 ⌝ }
 {
     let at = row as usize * 8;
     wide(nexts[at])
@@ -44,12 +51,12 @@ fn index_of(entry: u8) -> Index
     Index(entry % 64 / 8)
 }
 
-// The index of a cell that has one neighbour, which counts as three.
-fn beside(nexts: &[u8; 4096], near: Index, word: u32) -> Index
+// The index of a cell that has one neighbour, which counts as three; both parts of the table have it.
+fn beside(nexts: &[u8; 8192], near: Index, word: u32) -> Index
     requires { ⌜ near .0 < 8 ⌝ }
     ensures { λ r. ⌜ r .0 < 8 ⌝ }
 {
-    let row = entries(nexts, row_at(near, near, word));
+    let row = entries(nexts, row_at(0, near, near, word));
     index_of(((row >> (wide(near.0) * 8)) % 256) as u8)
 }
 
@@ -73,7 +80,7 @@ fn first_before(map: &[u8], s: Scan, l: usize) -> Index
 }
 
 // Guesses the first line: each cell has one neighbour, the first as if index 0 stood before it.
-fn guess_first(words: &[u32], at: usize, map: &mut [u8], s: Scan, nexts: &[u8; 4096])
+fn guess_first(words: &[u32], at: usize, map: &mut [u8], s: Scan, nexts: &[u8; 8192])
     requires { ⌜ Sound s (length (now map)) × (0 < s .lines) × (at + s .len ≤ length (now words)) × Below (now map) 8 ⌝ }
     ensures { λ _. ⌜ Below (now (map .exit)) 8 ⌝ }
 {
@@ -91,21 +98,22 @@ fn guess_first(words: &[u32], at: usize, map: &mut [u8], s: Scan, nexts: &[u8; 4
 // vector code.
 fn fill_rows(words: &[u32], at: usize, map: &[u8], s: Scan, l: usize, rows: &mut [u16; 64])
     requires { ⌜ Sound s (length (now map)) × (0 < l) × (l < s .lines) × (at + s .len ≤ length (now words)) × Below (now map) 8
-        × Below (now rows) 512 ⌝ }
-    ensures { λ _. ⌜ Below (now (rows .exit)) 512 ⌝ }
+        × Below (now rows) 1024 ⌝ }
+    ensures { λ _. ⌜ Below (now (rows .exit)) 1024 ⌝ }
 {
+    let part = part_of(s.transposed);
     let mut a: usize = 1;
     while a < s.len {
         let above = index_in(map, scan::place(s, l - 1, a));
         let diag = index_in(map, scan::place(s, l - 1, a - 1));
-        rows[a] = row_at(above, diag, words[at + a]);
+        rows[a] = row_at(part, above, diag, words[at + a]);
         a += 1;
     }
 }
 
 // The entry of each cell, the first one's given: a cell waits for the one before it only by a shift.
-fn follow(rows: &[u16; 64], len: usize, first: Index, nexts: &[u8; 4096], line: &mut [u8; 64])
-    requires { ⌜ (len ≤ 64) × Below (now rows) 512 × (first .0 < 8) ⌝ }
+fn follow(rows: &[u16; 64], len: usize, first: Index, nexts: &[u8; 8192], line: &mut [u8; 64])
+    requires { ⌜ (len ≤ 64) × Below (now rows) 1024 × (first .0 < 8) ⌝ }
 {
     line[0] = first.0 * 8;
     let mut last = wide(line[0]);
@@ -132,7 +140,7 @@ fn put_line(line: &[u8; 64], map: &mut [u8], s: Scan, l: usize)
 }
 
 // Guesses line l, all of whose cells are sent; their words begin at `at`.
-fn guess_cells(words: &[u32], at: usize, map: &mut [u8], s: Scan, l: usize, nexts: &[u8; 4096])
+fn guess_cells(words: &[u32], at: usize, map: &mut [u8], s: Scan, l: usize, nexts: &[u8; 8192])
     requires { ⌜ Sound s (length (now map)) × (l < s .lines) × (at + s .len ≤ length (now words)) × Below (now map) 8 ⌝ }
     ensures { λ _. ⌜ Below (now (map .exit)) 8 ⌝ }
 {
@@ -162,7 +170,7 @@ fn guess_line(
     s: Scan,
     l: usize,
     flag: u8,
-    nexts: &[u8; 4096],
+    nexts: &[u8; 8192],
 ) -> usize
     requires { ⌜ Sound s (length (now map)) × (l < s .lines) × (at < length (now words)) × Below (now map) 8 ⌝ }
     ensures { λ _. ⌜ Below (now (map .exit)) 8 ⌝ }
@@ -184,14 +192,14 @@ fn guess_line(
     at
 }
 
-// Guesses all lines, by the table of the neighbour before: left where lines are rows, top where they are columns.
+// Guesses all lines.
 pub fn guess_lines(
     words: &[u32],
     at: usize,
     map: &mut [u8],
     flags: &mut [u8],
     s: Scan,
-    nexts: &[u8; 4096],
+    nexts: &[u8; 8192],
 )
     requires { ⌜ Sound s (length (now map)) × (length (now flags) ≡ s .lines) × Below (now map) 8 ⌝ }
     ensures { λ _. ⌜ Below (now (map .exit)) 8 ⌝ }

@@ -220,7 +220,7 @@ fn read_guessed(
     aside: &mut [u32],
     map: &mut [u8],
     flags: &mut [u8],
-    nexts: &[u8; 4096],
+    nexts: &[u8; 8192],
 ) -> Palette
     requires { ⌜ Headed b (now cache) (now words) (length (now map)) (length (now flags)) ⌝ }
     requires { ⌜ (now cells ≡ replicate (b .width * b .height) 0) × (now lines ≡ replicate (scanOf (b .width) (b .height) (b .transposed) .lines) 0)
@@ -245,7 +245,7 @@ fn read_by(
     words: &[u32],
     map: &mut [u8],
     flags: &mut [u8],
-    nexts: &[u8; 4096],
+    nexts: &[u8; 8192],
 ) -> Palette
     requires { ⌜ Headed b (now cache) (now words) (length (now map)) (length (now flags)) ⌝ }
     ensures { λ r. ⌜ Reads
@@ -276,11 +276,7 @@ fn read_behind(b: Head, cache: &[u16], words: &[u32], map: &mut [u8], flags: &mu
         (reading (b .width) (b .height) (b .bd) (now (cache .entry)) (length (now (map .entry))) (length (now (flags .entry))) (now (words .entry)))
         (now (map .entry)) (now (map .exit)) (now (flags .entry)) (now (flags .exit)) r ⌝ }
 {
-    if b.transposed {
-        let nexts = rows::by_top();
-        return read_by(b, cache, words, map, flags, &nexts);
-    }
-    let nexts = rows::by_left();
+    let nexts = rows::nexts();
     read_by(b, cache, words, map, flags, &nexts)
 }
 

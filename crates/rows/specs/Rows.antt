@@ -42,20 +42,20 @@ orderTable = rowsFrom orderRow 0 512
 unfoldable pub codeTable : List ℕ
 codeTable = rowsFrom codeRow 0 512
 
--- The same answers turned round, for reading: row k is of the neighbour above, k / 64, the diagonal one, k / 8 % 8, and the rank,
--- k % 8; its places are of the neighbour before, left in a row and top in a column. An entry is eight times the index, and so the
--- shift to its own place in a row taken as one number; 64 times the place's last two bits keep equal entries apart.
+-- The order turned round, for reading: a row is of the neighbour above, k / 64, the diagonal one, k / 8 % 8, and the rank, k % 8, and
+-- its eight places are of the neighbour before. An entry is eight times the index, and so the shift to that index's place in a row
+-- that is taken as one number; 64 times the place's last two bits keep equal entries apart.
 abbrev pub nextAt : (ℕ → ℕ → ℕ → ℕ) → ℕ → ℕ → ℕ
 nextAt row k b = b % 4 * 64 + getD (orderRow (row b (k / 64) (k / 8 % 8))) (k % 8) 0 * 8
 
 abbrev pub nextRow : (ℕ → ℕ → ℕ → ℕ) → ℕ → List ℕ
-nextRow row k = nextAt row k 0 ∷ nextAt row k 1 ∷ nextAt row k 2 ∷ nextAt row k 3 ∷ nextAt row k 4 ∷ nextAt row k 5 ∷ nextAt row k 6 ∷ nextAt row k 7 ∷ []
+nextRow row k =
+    let at = nextAt row k in
+    at 0 ∷ at 1 ∷ at 2 ∷ at 3 ∷ at 4 ∷ at 5 ∷ at 6 ∷ at 7 ∷ []
 
-unfoldable pub leftTable : List ℕ
-leftTable = rowsFrom (nextRow rowOf) 0 512
-
-unfoldable pub topTable : List ℕ
-topTable = rowsFrom (nextRow (λ before above diag. rowOf above before diag)) 0 512
+-- where lines are rows left is before and top above, then where they are columns
+unfoldable pub nextTable : List ℕ
+nextTable = rowsFrom (nextRow rowOf) 0 512 ++ rowsFrom (nextRow (λ top left diag. rowOf left top diag)) 0 512
 
 -- what is lent: both tables
 pub record Tables (orders codes : List ℕ) : Type 0 where

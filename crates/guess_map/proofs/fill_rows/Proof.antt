@@ -10,42 +10,45 @@ use Rattle.guess_map.proofs.fill_rows.Statement.{statement}
 use Rattle.guess_map.proofs.fill_rows.Tie as tie
 
 abbrev Inv-loop : tie.InvT-loop
-Inv-loop words at map s l rows₀ a₀ rows a = (1 ≤ a) × Below rows 512
+Inv-loop words at map s l rows₀ part a₀ rows a = (1 ≤ a) × Below rows 1024
 
 abbrev μ-loop : tie.MeasureT-loop
-μ-loop words at map s l rows₀ a₀ rows a = s .len - a
+μ-loop words at map s l rows₀ part a₀ rows a = s .len - a
+
+part-of-requires : tie.Need-part-of-requires Inv-loop μ-loop
+part-of-requires c κs = search needs
 
 loop-holds : tie.Need-loop-holds Inv-loop μ-loop
-loop-holds c = (omega arith, c .before .before .pre .5)
+loop-holds c = (omega arith, c .before .before .before .pre .5)
 
 sub-place : tie.Need-sub-place Inv-loop μ-loop
-sub-place c = omega (arith, c .before .before .before .before .before .pre .1)
+sub-place c = omega (arith, c .before .before .before .before .before .before .pre .1)
 
 place-requires : tie.Need-place-requires Inv-loop μ-loop
 place-requires c κs =
-    let s = c .before .before .before .before .before in
+    let s = c .before .before .before .before .before .before in
     before-inside (s .pre .0) (s .args .l) (c .before .before .loop .a) (s .pre .2) (c .if1 .taken) .0
 
 index-in-requires : tie.Need-index-in-requires Inv-loop μ-loop
 index-in-requires c κs =
-    let s = c .before .before .before .before .before .before in
+    let s = c .before .before .before .before .before .before .before in
     let inside = before-inside (s .pre .0) (s .args .l) (c .before .before .before .loop .a) (s .pre .2) (c .before .if1 .taken) in
     (omega (arith, c .place .ensures, inside .1), s .pre .4)
 
 sub-place-2 : tie.Need-sub-place-2 Inv-loop μ-loop
-sub-place-2 c = omega (arith, c .before .before .before .before .before .before .before .pre .1)
+sub-place-2 c = omega (arith, c .before .before .before .before .before .before .before .before .pre .1)
 
 sub-place-3 : tie.Need-sub-place-3 Inv-loop μ-loop
 sub-place-3 c = omega (arith, c .before .before .before .before .loop .inv .0)
 
 place-requires-2 : tie.Need-place-requires-2 Inv-loop μ-loop
 place-requires-2 c κs =
-    let s = c .before .before .before .before .before .before .before in
+    let s = c .before .before .before .before .before .before .before .before in
     before-inside (s .pre .0) (s .args .l) (c .before .before .before .before .loop .a - 1) (s .pre .2) (omega (arith, c .before .before .if1 .taken)) .0
 
 index-in-requires-2 : tie.Need-index-in-requires-2 Inv-loop μ-loop
 index-in-requires-2 c κs =
-    let s = c .before .before .before .before .before .before .before .before in
+    let s = c .before .before .before .before .before .before .before .before .before in
     let inside = before-inside (s .pre .0) (s .args .l) (c .before .before .before .before .before .loop .a - 1) (s .pre .2) (omega (arith, c .before .before .before .if1 .taken)) in
     (omega (arith, c .place2 .ensures, inside .1), s .pre .4)
 
@@ -59,16 +62,16 @@ shared-slice-read-row-at : tie.Need-shared-slice-read-row-at Inv-loop μ-loop
 shared-slice-read-row-at c = search needs
 
 row-at-requires : tie.Need-row-at-requires Inv-loop μ-loop
-row-at-requires c κs = (c .before .before .before .index-in .ensures, c .before .index-in2 .ensures)
+row-at-requires c κs = (c .before .before .before .before .before .before .before .before .part-of .ensures, c .before .before .before .index-in .ensures, c .before .index-in2 .ensures)
 
 mul-rows : tie.Need-mul-rows Inv-loop μ-loop
 mul-rows c = search needs
 
 element-write-rows : tie.Need-element-write-rows Inv-loop μ-loop
-element-write-rows c = omega (arith, c .before .before .before .before .before .before .if1 .taken, c .before .before .before .before .before .before .before .before .before .before .before .pre .0 .short)
+element-write-rows c = omega (arith, c .before .before .before .before .before .before .if1 .taken, c .before .before .before .before .before .before .before .before .before .before .before .before .pre .0 .short)
 
 add-a : tie.Need-add-a Inv-loop μ-loop
-add-a c = omega (arith, c .before .before .before .before .before .before .if1 .taken, c .before .before .before .before .before .before .before .before .before .before .before .pre .0 .short)
+add-a c = omega (arith, c .before .before .before .before .before .before .if1 .taken, c .before .before .before .before .before .before .before .before .before .before .before .before .pre .0 .short)
 
 loop-less : tie.Need-loop-less Inv-loop μ-loop
 loop-less c = omega (arith, c .before .before .before .before .before .before .if1 .taken)
@@ -76,7 +79,7 @@ loop-less c = omega (arith, c .before .before .before .before .before .before .i
 loop-again : tie.Need-loop-again Inv-loop μ-loop
 loop-again c =
     let l = c .before .before .before .before .before .before .before .before .loop in
-    (omega (arith, l .inv .0), below-set (l .rows) 512 (l .a) _ (l .inv .1) (c .row-at .ensures))
+    (omega (arith, l .inv .0), below-set (l .rows) 1024 (l .a) _ (l .inv .1) (c .row-at .ensures))
 
 returns : tie.Need-returns Inv-loop μ-loop
 returns c = c .before .before .loop .inv .1
@@ -87,6 +90,7 @@ fill-rows-spec =
     (tie.spec
     Inv-loop
     μ-loop
+    part-of-requires
     loop-holds
     sub-place
     place-requires

@@ -16,7 +16,7 @@ returns c = search needs
 fill-rows-requires : tie.Need-fill-rows-requires
 fill-rows-requires c κs =
     let p = c .before .before .before .before .before .pre in
-    (p .0, omega (arith, c .before .before .if1 .left), p .1, p .2, p .3, λ i. zeros-below 64 512 i (omega arith))
+    (p .0, omega (arith, c .before .before .if1 .left), p .1, p .2, p .3, λ i. zeros-below 64 1024 i (omega arith))
 
 first-before-requires : tie.Need-first-before-requires
 first-before-requires c κs = search needs
