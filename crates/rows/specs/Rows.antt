@@ -1,4 +1,4 @@
--- Document 02, L7: what three neighbours below 8 answer, row after row in two tables. Assumes nothing.
+-- Document 02, L7: what three neighbours below 8 answer, row after row in two tables, and the order once more for reading. Assumes nothing.
 use Prim.Native.Nat.{ℕ, zero, suc, _+_, _*_, _/_, _%_, _<_}
 use mathlib.Core.Path.{_≡_}
 use mathlib.Core.List.{List, [], _∷_, _++_}
