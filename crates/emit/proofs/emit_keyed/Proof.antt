@@ -57,11 +57,13 @@ module _ (s : tie.Start Inv-loop μ-loop) (b : ℕ) (h : 1 ≤ b) (g : b < s .ar
       (s .pre .0 .0 .eight) low (past .0) (past .1) (s .pre .0 .1))
 
 -- a buffer as long as with the first word
-room : (s : tie.Start Inv-loop μ-loop) (v to : ℕ) (out : List ℕ) → length out ≡ length (set (s .args .out .now) (s .args .at) v) → to ≤ s .args .count
+room : (s : tie.Start Inv-loop μ-loop) (v to : ℕ) (out : List ℕ) → length out ≡ length (set (s .args .out .now) (s .args .at) v)
+    → to ≤ s .args .count
     → s .args .at + to ≤ length out
 room s v to out e h = omega (arith, e, length-set (s .args .out .now) (s .args .at) v, s .pre .1 .0)
 
-readable : (s : tie.Start Inv-loop μ-loop) (from to : ℕ) → 1 ≤ from → to ≤ s .args .count → Readable (s .args .codes .now) (s .args .keys .now) from to
+readable : (s : tie.Start Inv-loop μ-loop) (from to : ℕ) → 1 ≤ from → to ≤ s .args .count
+    → Readable (s .args .codes .now) (s .args .keys .now) from to
 readable s from to h g b p q = (near s b (omega arith) (omega arith), code s b (omega arith) (omega arith))
 
 line-word-requires : tie.Need-line-word-requires Inv-loop μ-loop

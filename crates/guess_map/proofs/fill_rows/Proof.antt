@@ -49,7 +49,8 @@ place-requires-2 c κs =
 index-in-requires-2 : tie.Need-index-in-requires-2 Inv-loop μ-loop
 index-in-requires-2 c κs =
     let s = c .before .before .before .before .before .before .before .before .before in
-    let inside = before-inside (s .pre .0) (s .args .l) (c .before .before .before .before .before .loop .a - 1) (s .pre .2) (omega (arith, c .before .before .before .if1 .taken)) in
+    let a = c .before .before .before .before .before .loop .a in
+    let inside = before-inside (s .pre .0) (s .args .l) (a - 1) (s .pre .2) (omega (arith, c .before .before .before .if1 .taken)) in
     (omega (arith, c .place2 .ensures, inside .1), s .pre .4)
 
 add-row-at : tie.Need-add-row-at Inv-loop μ-loop
@@ -62,16 +63,22 @@ shared-slice-read-row-at : tie.Need-shared-slice-read-row-at Inv-loop μ-loop
 shared-slice-read-row-at c = search needs
 
 row-at-requires : tie.Need-row-at-requires Inv-loop μ-loop
-row-at-requires c κs = (c .before .before .before .before .before .before .before .before .part-of .ensures, c .before .before .before .index-in .ensures, c .before .index-in2 .ensures)
+row-at-requires c κs =
+    let above = c .before .before .before in
+    (above .before .before .before .before .before .part-of .ensures, above .index-in .ensures, c .before .index-in2 .ensures)
 
 mul-rows : tie.Need-mul-rows Inv-loop μ-loop
 mul-rows c = search needs
 
 element-write-rows : tie.Need-element-write-rows Inv-loop μ-loop
-element-write-rows c = omega (arith, c .before .before .before .before .before .before .if1 .taken, c .before .before .before .before .before .before .before .before .before .before .before .before .pre .0 .short)
+element-write-rows c =
+    let turn = c .before .before .before .before .before .before in
+    omega (arith, turn .if1 .taken, turn .before .before .before .before .before .before .pre .0 .short)
 
 add-a : tie.Need-add-a Inv-loop μ-loop
-add-a c = omega (arith, c .before .before .before .before .before .before .if1 .taken, c .before .before .before .before .before .before .before .before .before .before .before .before .pre .0 .short)
+add-a c =
+    let turn = c .before .before .before .before .before .before in
+    omega (arith, turn .if1 .taken, turn .before .before .before .before .before .before .pre .0 .short)
 
 loop-less : tie.Need-loop-less Inv-loop μ-loop
 loop-less c = omega (arith, c .before .before .before .before .before .before .if1 .taken)

@@ -29,7 +29,9 @@ flag-at-requires : tie.Need-flag-at-requires Inv-loop μ-loop
 flag-at-requires c κs = omega (arith, c .if2 .left)
 
 slice-write-flags : tie.Need-slice-write-flags Inv-loop μ-loop
-slice-write-flags c = omega (arith, c .before .before .if1 .taken, c .before .before .before .before .loop .inv .1, c .before .before .before .before .before .before .before .before .pre .1)
+slice-write-flags c =
+    let turn = c .before .before in
+    omega (arith, turn .if1 .taken, turn .before .before .loop .inv .1, turn .before .before .before .before .before .before .pre .1)
 
 guess-line-requires : tie.Need-guess-line-requires Inv-loop μ-loop
 guess-line-requires c κs =
@@ -38,7 +40,9 @@ guess-line-requires c κs =
     (rw (l .inv .0) (p .0), c .before .before .before .if1 .taken, omega (arith, c .before .before .if2 .left), l .inv .2)
 
 add-l : tie.Need-add-l Inv-loop μ-loop
-add-l c = omega (arith, c .before .before .before .before .before .before .if1 .taken, c .before .before .before .before .before .before .before .before .before .before .before .before .pre .0 .few)
+add-l c =
+    let turn = c .before .before .before .before .before .before in
+    omega (arith, turn .if1 .taken, turn .before .before .before .before .before .before .pre .0 .few)
 
 loop-less : tie.Need-loop-less Inv-loop μ-loop
 loop-less c = omega (arith, c .before .before .before .before .before .before .if1 .taken)

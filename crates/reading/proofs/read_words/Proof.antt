@@ -20,8 +20,9 @@ codes-requires c κs = search needs
 read-rest-requires : tie.Need-read-rest-requires
 read-rest-requires c κs =
     let lines = c .before .before .before .before .before .before .before .before .before .before .before .clear2 in
-    let cells = c .before .before .before .before .before .before .before .before .before .before .before .before .before .before .before .clear in
-    let p = c .before .before .before .before .before .before .before .before .before .before .before .before .before .before .before .before .before .before .before .before .before .before .before .before .pre in (
+    let far = c .before .before .before .before .before .before .before .before .before .before .before .before .before .before .before in
+    let cells = far .clear in
+    let p = far .before .before .before .before .before .before .before .before .before .pre in (
       p .0,
       (
         cells .ensures ∙ ap (λ k. replicate {A = ℕ} k 0) (p .1 .0),
