@@ -1,6 +1,6 @@
 //! Takes the original `palette.rs` from outside the repository and swaps its one `OnceLock`
 //! import for our cell type. Nothing else of the file is changed. A second copy, for counting
-//! alone, has three lines more in its map search. Of the original `entropy.rs` it takes the
+//! alone, has three lines more in its map search and one in its search. Of the original `entropy.rs` it takes the
 //! functions that send raw bits, with the values that their coder starts from.
 
 use std::path::{Path, PathBuf};
@@ -34,6 +34,12 @@ const COUNTED: [(&str, &str); 3] = [
         "                crate::map_searches::ask();",
     ),
 ];
+
+/// Where a map is the best so far, with the line that tells what its estimate is made of.
+const STANDING: (&str, &str) = (
+    "            if best.as_ref().is_none_or(|(bj, _)| j < *bj) {",
+    "                crate::map_searches::stand(head, mbits);",
+);
 
 /// The functions of the original's coder that send raw bits, tell how many were sent, and hand
 /// them over as bytes.
@@ -117,7 +123,7 @@ fn swap_import(lines: &mut [&str]) -> Result<(), String> {
     Ok(())
 }
 
-/// Each line is looked for in the map search alone, since it may stand elsewhere too.
+/// The lines of the map search are looked for in it alone, since they may stand elsewhere too.
 fn add_counter(lines: &mut Vec<&str>) -> Result<(), String> {
     let mut map_search = lines.split_off(only_place(lines, MAP_SEARCH)?);
     let behind = map_search.split_off(up_to(&map_search, END)?.len() - 1);
@@ -126,6 +132,8 @@ fn add_counter(lines: &mut Vec<&str>) -> Result<(), String> {
         map_search.insert(place + 1, added);
     }
     lines.extend(map_search.into_iter().chain(behind));
+    let (line, added) = STANDING;
+    lines.insert(only_place(lines, line)? + 1, added);
     Ok(())
 }
 

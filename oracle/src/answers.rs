@@ -4,6 +4,7 @@
 use crate::check::{list_number, palette_number, search_number, Asked};
 use crate::generate::requests::Request;
 use crate::generate::searches::SearchRequest;
+use crate::map_searches::{counted_search, Split};
 use crate::original::{self, raw_width, Found};
 
 #[derive(Clone, Debug, PartialEq)]
@@ -76,13 +77,15 @@ pub struct SearchAnswer {
     pub number: u32,
     /// n, eight colours, orientation.
     pub fields: [u32; 10],
+    /// The original's `bits`, and what they are made of.
     pub bits: f32,
+    pub split: Split,
     pub map: Vec<u8>,
     pub flags: Vec<u8>,
 }
 
 impl SearchAnswer {
-    pub fn new(number: u32, found: Option<Found>) -> Self {
+    pub fn new(number: u32, found: Option<Found>, split: Split) -> Self {
         let fields = Found::fields(found.as_ref());
         let bits = found.as_ref().map_or(0.0, |found| found.bits);
         let (map, flags) =
@@ -91,9 +94,15 @@ impl SearchAnswer {
             number,
             fields,
             bits,
+            split,
             map,
             flags,
         }
+    }
+
+    /// The estimate, head and map bits.
+    pub fn figures(&self) -> [f32; 3] {
+        [self.bits, self.split.head, self.split.map_bits]
     }
 }
 
@@ -103,7 +112,7 @@ pub fn search_answer(request: &SearchRequest) -> SearchAnswer {
 
 pub fn asked_answer(asked: &Asked) -> SearchAnswer {
     let number = search_number(asked);
-    SearchAnswer::new(number, run_original(asked, number))
+    SearchAnswer::new(number, run_original(asked, number), split_of(asked, number))
 }
 
 /// The original's answer to what has this number. It is kept away from what tests 1 to 7 refuse,
@@ -121,4 +130,12 @@ pub fn run_original(asked: &Asked, number: u32) -> Option<Found> {
         "the original and document 01 differ on whether there is a palette"
     );
     found
+}
+
+/// What the estimate of that answer is made of.
+pub fn split_of(asked: &Asked, number: u32) -> Split {
+    match number {
+        0 => counted_search(asked).split,
+        _ => Split::default(),
+    }
 }

@@ -21,8 +21,7 @@ struct Table {
     next: usize,
 }
 
-/// The filled value of the last table seen. Its box is used again for the next one. The counted
-/// copy's value has another type, so it runs on threads of its own.
+/// The filled value of the last table seen. Its box is used again for the next one.
 struct Kept {
     generation: u64,
     value: Box<dyn Any>,
@@ -31,7 +30,8 @@ struct Kept {
 thread_local! {
     static TABLE: RefCell<Table> =
         const { RefCell::new(Table { costs: [0.0; COSTS], generation: 0, next: 0 }) };
-    static KEPT: RefCell<Option<Kept>> = const { RefCell::new(None) };
+    /// One of the original's type and one of its counted copy's.
+    static KEPT: RefCell<Vec<Kept>> = const { RefCell::new(Vec::new()) };
 }
 
 /// Lends `costs` to the calls that follow on this thread.
@@ -95,12 +95,7 @@ impl<T: 'static> OnceLock<T> {
     pub(crate) fn get_or_init(&'static self, init: impl FnOnce() -> T) -> &'static T {
         let generation = start_handing_out();
         KEPT.with_borrow_mut(|kept| {
-            if kept.as_ref().is_none_or(|k| k.generation != generation) {
-                let value = init();
-                assert!(all_handed_out(), "fewer costs asked for than lent");
-                keep(kept, generation, value);
-            }
-            let value: *const T = kept_value(kept);
+            let value: *const T = kept_of(kept, generation, init);
             // SAFETY: the box is never freed before the thread ends, and it is overwritten only
             // here after another `lend`, which is done before the original or its counted copy is
             // called and never while a reference from an earlier call is alive.
@@ -109,26 +104,26 @@ impl<T: 'static> OnceLock<T> {
     }
 }
 
-fn keep<T: 'static>(kept: &mut Option<Kept>, generation: u64, value: T) {
-    match kept {
-        Some(k) => {
-            *k.value
-                .downcast_mut()
-                .expect("the original has one cell only") = value;
-            k.generation = generation;
+/// The value of this type, filled anew if another table was lent since.
+fn kept_of<T: 'static>(all: &mut Vec<Kept>, generation: u64, init: impl FnOnce() -> T) -> &T {
+    let place = all.iter().position(|kept| kept.value.is::<T>());
+    match place.map(|place| &mut all[place]) {
+        Some(kept) if kept.generation == generation => {}
+        Some(kept) => {
+            *kept.value.downcast_mut().expect("found by its type") = filled(init);
+            kept.generation = generation;
         }
         None => {
-            *kept = Some(Kept {
-                generation,
-                value: Box::new(value),
-            })
+            let value = Box::new(filled(init));
+            all.push(Kept { generation, value });
         }
     }
+    let kept = &all[place.unwrap_or(all.len() - 1)];
+    kept.value.downcast_ref().expect("found by its type")
 }
 
-fn kept_value<T: 'static>(kept: &Option<Kept>) -> &T {
-    let kept = kept.as_ref().expect("filled before");
-    kept.value
-        .downcast_ref()
-        .expect("the original has one cell only")
+fn filled<T>(init: impl FnOnce() -> T) -> T {
+    let value = init();
+    assert!(all_handed_out(), "fewer costs asked for than lent");
+    value
 }

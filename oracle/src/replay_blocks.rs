@@ -152,7 +152,10 @@ pub fn line(place: usize, replayed: &ReplayedBlock) -> String {
         "{place} {} {n} {orientation} {} {} {} 1 {} 1",
         answer.number,
         colors.join(" "),
-        answer.bits.to_bits(),
+        answer
+            .figures()
+            .map(|figure| figure.to_bits().to_string())
+            .join(" "),
         hash(&answer.map),
         hash(&answer.flags),
     )

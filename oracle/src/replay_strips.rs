@@ -7,7 +7,7 @@ use crate::generate::strips::{
 };
 use crate::replay::{hash, put_pair};
 use crate::replay_blocks::{group_costs, put_float, CostsBefore};
-use crate::strips::{parts, strip_answer, Part, StripAnswer};
+use crate::strips::{parts, strip_answer, Part, StripAnswer, FIELDS};
 
 /// What the crate's buffers hold.
 const SIDES: usize = 300;
@@ -175,7 +175,8 @@ pub fn lines(place: usize, replayed: &ReplayedStrip) -> String {
     lines
 }
 
-/// Number, n, orientation, colours, estimate, and the hashes of its part of map and flags.
+/// Number, n, orientation, colours, estimate, head and map bits, and the hashes of its part of map
+/// and flags.
 fn block_line(part: &Part, block: &SearchAnswer, map: &[u8], flags: &[u8]) -> String {
     let [n, colors @ .., orientation] = &block.fields;
     let colors: Vec<String> = colors.iter().map(u32::to_string).collect();
@@ -183,7 +184,10 @@ fn block_line(part: &Part, block: &SearchAnswer, map: &[u8], flags: &[u8]) -> St
         "\n {} {n} {orientation} {} {} {} {}",
         block.number,
         colors.join(" "),
-        block.bits.to_bits(),
+        block
+            .figures()
+            .map(|figure| figure.to_bits().to_string())
+            .join(" "),
         hash_bytes(&map[part.cells..][..part.w * part.h]),
         hash_bytes(&flags[part.flags..][..part.w.max(part.h)]),
     )
@@ -193,13 +197,13 @@ fn hash_bytes(bytes: &[u8]) -> u64 {
     hash(bytes.iter().map(|&byte| u32::from(byte)))
 }
 
-/// Of the fields of all 64 answers, each with its estimate behind them.
+/// Of the fields of all 64 answers, each with its head and map bits behind them.
 fn hash_answers(answer: &StripAnswer) -> u64 {
-    let (fields, estimates) = (answer.fields(), answer.estimates());
-    let each = fields.chunks_exact(fields.len() / estimates.len());
-    let words = each.zip(estimates).flat_map(|(fields, bits)| {
-        let bits = [bits.to_bits()];
-        fields.iter().copied().chain(bits)
+    let (fields, splits) = (answer.fields(), answer.splits());
+    let each = fields.chunks_exact(FIELDS).zip(splits.chunks_exact(2));
+    let words = each.flat_map(|(fields, split)| {
+        let split = split.iter().map(|figure| figure.to_bits());
+        fields.iter().copied().chain(split)
     });
     hash(words)
 }

@@ -106,6 +106,15 @@ impl StripAnswer {
         all
     }
 
+    /// Head and map bits of all 64; those past the count are 0.
+    pub fn splits(&self) -> [f32; 2 * MOST_BLOCKS] {
+        let mut all = [0.0; 2 * MOST_BLOCKS];
+        for (pair, block) in all.chunks_exact_mut(2).zip(&self.blocks) {
+            pair.copy_from_slice(&[block.split.head, block.split.map_bits]);
+        }
+        all
+    }
+
     /// Writes what is due into buffers as they were before the call: the cells and flags of each
     /// found block from the front of its part, and nothing else.
     pub fn write(&self, request: &StripRequest, map: &mut [u8], flags: &mut [u8]) {

@@ -31,7 +31,7 @@ fn the_counted_copy_answers_as_the_original() {
     let fields = |found: Found| (found.bits.to_bits(), found.palette);
     for (index, b) in all().enumerate() {
         let original = search(&b.samples, b.w, b.h, b.bd, b.lambda, &b.costs);
-        let counted = counted_search(&b);
+        let counted = counted_search(&(&b).into());
         assert_eq!(counted.map_searches.is_empty(), original.is_none());
         assert_eq!(
             counted.found.map(fields),
@@ -45,7 +45,7 @@ fn the_counted_copy_answers_as_the_original() {
 #[test]
 fn the_found_map_was_searched_to_its_last_line() {
     for block in all() {
-        let counted = counted_search(&block);
+        let counted = counted_search(&(&block).into());
         let Some(Found { palette, .. }) = counted.found else {
             continue;
         };

@@ -247,6 +247,12 @@ fn a_worked_strip() {
     let mut estimates = [0.0; 64];
     (estimates[0], estimates[4]) = (51.0, 51.0);
     assert_eq!(answer.estimates(), estimates);
+    // 8 + 2 + 5 bits of literals and the orientation, and the first cell.
+    let mut splits = [0.0; 128];
+    for block in [0, 4] {
+        splits[2 * block..][..2].copy_from_slice(&[16.0, 1.0]);
+    }
+    assert_eq!(answer.splits(), splits);
 
     let (mut map, mut flags) = ([FILL; 310], [FILL; 70]);
     answer.write(&worked(), &mut map, &mut flags);

@@ -12,13 +12,13 @@
  *  - the calling thread's floating-point environment is the default one, C's FE_DFL_ENV: rounding
  *    to nearest, neither flush-to-zero nor denormals-are-zero, exceptions masked.
  *
- * The last matters for palette_search and palette_strip alone. palette_pred makes floats of whole
- * numbers below 4096, and palette_costs of sixteenths from 0 to 15, which is exact in every
- * environment; the others have none. A program starts in the default environment unless it is
+ * The last matters for palette_search, palette_strip and palette_estimate alone. palette_pred makes
+ * floats of whole numbers below 4096, and palette_costs of sixteenths from 0 to 15, which is exact in
+ * every environment; the others have none. A program starts in the default environment unless it is
  * linked with -ffast-math (or -Ofast, or -funsafe-math-optimizations): that sets flush-to-zero and
  * denormals-are-zero, and the search may then find another palette. fesetround and feenableexcept
  * leave it too, and so may a library. Whoever cannot rule that out calls
- * palette_search_default_env and palette_strip_default_env.
+ * palette_search_default_env, palette_strip_default_env and palette_estimate_default_env.
  *
  * A function that returns uint32_t returns the documents' number: 0 if accepted, else the first
  * of its tests that fails. After a refusal every lent buffer (map, flags, words, values) is as it
@@ -124,12 +124,14 @@ uint32_t palette_costs(const uint16_t *adapted, size_t numbers, float costs[301]
  * Returns 0 or 1 to 10, tested in this order; 8, 9 and 10 mean only that there is no palette.
  * Writes from the front, and nothing behind: `map`, an index for each cell, row by row; `flags`,
  * one for each line, that is height of them, or width if transposed. Writes `found`: n, eight
- * colours with zeros past n, and 1 if transposed, else 0; `bits`: the estimate.
+ * colours with zeros past n, and 1 if transposed, else 0; `bits`: what it
+ * counted in bits for mode, size, colours and orientation (the head), then for flags and map.
+ * palette_estimate makes one figure of the two.
  */
 uint32_t palette_search(const float *samples, size_t count, size_t width, size_t height,
                         uint32_t bd, float lambda, const float *costs, size_t entries,
                         uint8_t *map, size_t map_room, uint8_t *flags, size_t flag_room,
-                        uint32_t found[10], float *bits);
+                        uint32_t found[10], float bits[2]);
 
 /*
  * palette_search in the default environment, whatever the caller's, which is put back: exceptions
@@ -142,7 +144,7 @@ uint32_t palette_search(const float *samples, size_t count, size_t width, size_t
 static inline uint32_t palette_search_default_env(
     const float *samples, size_t count, size_t width, size_t height, uint32_t bd, float lambda,
     const float *costs, size_t entries, uint8_t *map, size_t map_room, uint8_t *flags,
-    size_t flag_room, uint32_t found[10], float *bits) {
+    size_t flag_room, uint32_t found[10], float bits[2]) {
     fenv_t caller;
     uint32_t number;
     fegetenv(&caller);
@@ -151,6 +153,23 @@ static inline uint32_t palette_search_default_env(
                             map_room, flags, flag_room, found, bits);
     fesetenv(&caller);
     return number;
+}
+
+/*
+ * The bit estimate for weighing a block against other ways to code it: (head + map) x 3, the figure
+ * that the search of document 01 calls `bits`. It is not the length of the list. Takes any floats.
+ */
+float palette_estimate(float head, float map);
+
+/* palette_estimate in the default environment, as palette_search_default_env is palette_search. */
+static inline float palette_estimate_default_env(float head, float map) {
+    fenv_t caller;
+    float estimate;
+    fegetenv(&caller);
+    fesetenv(FE_DFL_ENV);
+    estimate = palette_estimate(head, map);
+    fesetenv(&caller);
+    return estimate;
 }
 
 /*
@@ -163,8 +182,8 @@ static inline uint32_t palette_search_default_env(
  * Returns 0, or for the strip as a whole 19, 1 if any side is outside 1..64, 3 if `count` is not
  * the sum of width x height, 7 if a room is below the sum of its places, tested in this order.
  * Writes `answers`, eleven numbers a block: its own number, then n, eight colours and orientation
- * as palette_search has them in `found`; and `bits`, its estimate. Both are 0 past the last block,
- * and throughout where the strip is refused: look at what is returned first.
+ * as palette_search has them in `found`; and `bits`, two a block: head and map bits. Both are 0 past
+ * the last block, and throughout where the strip is refused: look at what is returned first.
  *
  * Where that is 0, each block has the number and the fields, and in its places the map and the
  * flags, that palette_search gives it alone with its samples and exactly its places as rooms. So a
@@ -174,13 +193,13 @@ static inline uint32_t palette_search_default_env(
 uint32_t palette_strip(const size_t *sides, size_t numbers, const float *samples, size_t count,
                        uint32_t bd, float lambda, const float *costs, size_t entries,
                        uint8_t *map, size_t map_room, uint8_t *flags, size_t flag_room,
-                       uint32_t answers[704], float bits[64]);
+                       uint32_t answers[704], float bits[128]);
 
 /* palette_strip in the default environment, as palette_search_default_env is palette_search. */
 static inline uint32_t palette_strip_default_env(
     const size_t *sides, size_t numbers, const float *samples, size_t count, uint32_t bd,
     float lambda, const float *costs, size_t entries, uint8_t *map, size_t map_room,
-    uint8_t *flags, size_t flag_room, uint32_t answers[704], float bits[64]) {
+    uint8_t *flags, size_t flag_room, uint32_t answers[704], float bits[128]) {
     fenv_t caller;
     uint32_t number;
     fegetenv(&caller);

@@ -82,8 +82,10 @@ extern "C" {
         flags: *mut u8,
         flag_room: usize,
         found: *mut [u32; 10],
-        bits: *mut f32,
+        bits: *mut [f32; 2],
     ) -> u32;
+
+    fn palette_estimate(head: f32, map: f32) -> f32;
 
     fn palette_strip(
         sides: *const usize,
@@ -99,7 +101,7 @@ extern "C" {
         flags: *mut u8,
         flag_room: usize,
         answers: *mut [[u32; 11]; 64],
-        bits: *mut [f32; 64],
+        bits: *mut [[f32; 2]; 64],
     ) -> u32;
 
     fn palette_list(
@@ -175,13 +177,13 @@ pub(crate) fn costs(adapted: &[u16], table: &mut [f32; 301]) -> u32 {
     in_default(|| unsafe { palette_costs(adapted.as_ptr(), adapted.len(), table) })
 }
 
-/// The number; `found` becomes n, eight colours and orientation, `bits` the estimate.
+/// The number; `found` becomes n, eight colours and orientation, `bits` head and map bits.
 pub(crate) fn search(
     asked: Asked<'_>,
     map: &mut [u8],
     flags: &mut [u8],
     found: &mut [u32; 10],
-    bits: &mut f32,
+    bits: &mut [f32; 2],
 ) -> u32 {
     // SAFETY: each pointer and length is of one slice; the four mutable borrows do not overlap,
     // and the function writes within their lengths only.
@@ -205,18 +207,24 @@ pub(crate) fn search(
     })
 }
 
+/// (head + map bits) x 3.
+pub(crate) fn estimate(head: f32, map_bits: f32) -> f32 {
+    // SAFETY: it takes and gives numbers alone.
+    in_default(|| unsafe { palette_estimate(head, map_bits) })
+}
+
 /// The number; of each block `answers` becomes its number, n, eight colours and orientation, `bits`
-/// the estimate.
+/// head and map bits.
 pub(crate) fn strip(
     asked: AskedStrip<'_>,
     map: &mut [u8],
     flags: &mut [u8],
     answers: &mut [[u32; 11]; 64],
-    bits: &mut [f32; 64],
+    bits: &mut [[f32; 2]; 64],
 ) -> u32 {
     // SAFETY: each pointer and length is of one slice; the four mutable borrows do not overlap,
     // and the function writes within their lengths only. 64 times eleven numbers in a row are the
-    // 704 that it takes.
+    // 704 that it takes, and 64 pairs the 128.
     in_default(|| unsafe {
         palette_strip(
             asked.sides.as_ptr(),

@@ -31,7 +31,7 @@ pub struct Listing {
     ///     colors, // 10, 11 and 12 at 8 bits
     ///     map: vec![index],
     ///     // ..
-    /// #   bd: 8, transposed: false, flags: vec![1], bits: 0.0,
+    /// #   bd: 8, transposed: false, flags: vec![1], head: 0.0, map_bits: 0.0,
     /// };
     /// // 8 + 2 + 5 + 5 bits for the colours, 1 for the orientation, and those of the index.
     /// assert_eq!(list(&cell(0), &[])?.raw_width, 21 + 1);

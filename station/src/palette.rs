@@ -1,6 +1,6 @@
 //! A palette with its index map, owned or lent.
 
-use crate::archive::Lent;
+use crate::archive::{self, Lent};
 use crate::limits::MAX_COLORS;
 use crate::Refusal;
 use std::ops::Deref;
@@ -83,7 +83,8 @@ impl Deref for Colors {
 ///     transposed: false,
 ///     map: vec![0, 0, 0, 0, 0, 0, 1, 1],
 ///     flags: vec![1, 0],
-///     bits: 0.0,
+///     head: 0.0,
+///     map_bits: 0.0,
 /// };
 /// assert_eq!(list(&palette, &[])?.words.len(), 12);
 /// // The second line is no copy of the first.
@@ -108,10 +109,12 @@ pub struct Palette {
     /// A flag for each line: 0 every cell coded, 1 one index for the line, 2 a copy of the line
     /// before.
     pub flags: Vec<u8>,
-    /// The search's estimate for weighing this block against other ways to code it. It is not
-    /// the length of the list; listing and prediction do not look at it. A list does not hold it:
-    /// it is 0 in a palette that was read back.
-    pub bits: f32,
+    /// What the search counted for mode, size, colours and orientation, in bits: what the colours
+    /// cost. 0 in a palette that the search did not make, as one that was read back; a list does not
+    /// hold it, and listing and prediction do not look at it.
+    pub head: f32,
+    /// What the search counted for flags and map, in bits: what the map costs. 0 like `head`.
+    pub map_bits: f32,
 }
 
 /// A palette whose map and flags are lent. See [`Palette`] for the fields.
@@ -127,7 +130,8 @@ pub struct Palette {
 ///     transposed: false,
 ///     map: &[0, 0, 0, 0, 0, 0, 1, 1],
 ///     flags: &[1, 0],
-///     bits: 0.0,
+///     head: 0.0,
+///     map_bits: 0.0,
 /// };
 /// let mut words = [0; MAX_WORDS];
 /// assert_eq!(list_into(&palette, &[], &mut words)?.raw_width, 20);
@@ -149,8 +153,10 @@ pub struct PaletteView<'a> {
     pub map: &'a [u8],
     /// A flag for each line.
     pub flags: &'a [u8],
-    /// The search's estimate; 0 if read back.
-    pub bits: f32,
+    /// What the colours cost; 0 if the search did not make the palette.
+    pub head: f32,
+    /// What the map costs; 0 likewise.
+    pub map_bits: f32,
 }
 
 impl Palette {
@@ -173,7 +179,8 @@ impl Palette {
             transposed: false,
             map: vec![0, 0, 0, 0, 0, 0, 1, 1],
             flags: vec![1, 0],
-            bits: 0.0,
+            head: 0.0,
+            map_bits: 0.0,
         }
     }
 
@@ -192,8 +199,27 @@ impl Palette {
             transposed: self.transposed,
             map: &self.map,
             flags: &self.flags,
-            bits: self.bits,
+            head: self.head,
+            map_bits: self.map_bits,
         }
+    }
+
+    /// The estimate for weighing this block against other ways to code it: (head + map bits) x 3. It
+    /// is not the length of the list, and 0 for a palette that the search did not make.
+    ///
+    /// ```
+    /// use palette_station::{search, Block, Costs};
+    ///
+    /// let samples = [[10.0; 8], [20.0; 8]].concat();
+    /// let block = Block { samples: &samples, width: 16, height: 1, bd: 8 };
+    /// let palette = search(&block, 0.0, &Costs::from_table([0.0; 301]))?;
+    /// // Where symbols cost nothing: 15 bits of literals and one of orientation; the first index.
+    /// assert_eq!((palette.head, palette.map_bits), (16.0, 1.0));
+    /// assert_eq!(palette.estimate(), 51.0);
+    /// # Ok::<(), palette_station::Refusal>(())
+    /// ```
+    pub fn estimate(&self) -> f32 {
+        self.view().estimate()
     }
 
     /// The number of lines: rows, or columns when transposed.
@@ -231,11 +257,12 @@ impl Palette {
 
 impl<'a> PaletteView<'a> {
     /// From the archive's answer: n, eight colours and orientation, and the buffers whose fronts
-    /// it wrote. Without an estimate.
+    /// it wrote; and head and map bits.
     pub(crate) fn from_fields(
         (width, height): (usize, usize),
         bd: u32,
         fields: [u32; 10],
+        [head, map_bits]: [f32; 2],
         map: &'a [u8],
         flags: &'a [u8],
     ) -> PaletteView<'a> {
@@ -250,7 +277,8 @@ impl<'a> PaletteView<'a> {
             transposed,
             map: &map[..width * height],
             flags: &flags[..lines],
-            bits: 0.0,
+            head,
+            map_bits,
         }
     }
 }
@@ -272,8 +300,21 @@ impl PaletteView<'_> {
             transposed: self.transposed,
             map: self.map.to_vec(),
             flags: self.flags.to_vec(),
-            bits: self.bits,
+            head: self.head,
+            map_bits: self.map_bits,
         }
+    }
+
+    /// As [`Palette::estimate`].
+    ///
+    /// ```
+    /// let mut palette = palette_station::Palette::example();
+    /// assert_eq!(palette.view().estimate(), 0.0);
+    /// (palette.head, palette.map_bits) = (21.5, 4.0);
+    /// assert_eq!(palette.view().estimate(), 76.5);
+    /// ```
+    pub fn estimate(&self) -> f32 {
+        archive::estimate(self.head, self.map_bits)
     }
 
     /// The number of lines: rows, or columns when transposed.

@@ -9,8 +9,8 @@ use crate::{Palette, PaletteView, Refusal};
 ///
 /// Listing and reading undo each other. What is read is the palette that was listed, and a list is
 /// accepted only if [`list`](crate::list) would write that same list. So no two palettes share a
-/// list for readers either. The estimate alone is in no list: `bits` is 0.0, as in every palette
-/// that the search did not make.
+/// list for readers either. What the search counted is in no list: `head` and `map_bits` are 0.0, as in
+/// every palette that it did not make.
 ///
 /// Refused by 1, 2 and 13, tested in this order; then the earliest faulty word decides: 20 if the
 /// list ends where a word is due, 21 if another word stands there. Then come 22 for words left over
@@ -29,7 +29,7 @@ use crate::{Palette, PaletteView, Refusal};
 /// // The list is read, and what was read is drawn: the picture of the palette found.
 /// let back = read(16, 8, 8, &kept, &[])?;
 /// assert_eq!(pred(&back)?, pred(&palette)?);
-/// assert_eq!(back, Palette { bits: 0.0, ..palette });
+/// assert_eq!(back, Palette { head: 0.0, map_bits: 0.0, ..palette });
 ///
 /// assert_eq!(read(16, 8, 8, &kept[..9], &[]), Err(Refusal::LIST_END));
 /// # Ok::<(), Refusal>(())
@@ -86,5 +86,9 @@ pub fn read_into<'b>(
     let mut fields = [0; 10];
     Refusal::check(archive::read(kept, map, flags, &mut fields))?;
     let sides = (width, height);
-    Ok(PaletteView::from_fields(sides, bd, fields, map, flags))
+    // A list holds nothing of what the search counted.
+    let bits = [0.0; 2];
+    Ok(PaletteView::from_fields(
+        sides, bd, fields, bits, map, flags,
+    ))
 }

@@ -102,9 +102,10 @@ pub fn search_into<'b>(
         lambda,
         costs: costs.as_table(),
     };
-    let (mut fields, mut bits) = ([0; 10], 0.0);
+    let (mut fields, mut bits) = ([0; 10], [0.0; 2]);
     Refusal::check(archive::search(asked, map, flags, &mut fields, &mut bits))?;
     let sides = (block.width, block.height);
-    let found = PaletteView::from_fields(sides, block.bd, fields, map, flags);
-    Ok(PaletteView { bits, ..found })
+    Ok(PaletteView::from_fields(
+        sides, block.bd, fields, bits, map, flags,
+    ))
 }

@@ -163,7 +163,7 @@ pub fn search_strip_into<'b>(
         lambda,
         costs: costs.as_table(),
     };
-    let (mut fields, mut bits) = ([[0; 11]; MAX_STRIP], [0.0; MAX_STRIP]);
+    let (mut fields, mut bits) = ([[0; 11]; MAX_STRIP], [[0.0; 2]; MAX_STRIP]);
     Refusal::check(archive::strip(asked, map, flags, &mut fields, &mut bits))?;
     let count = blocks.sides.len();
     let mut sides = [[0; 2]; MAX_STRIP];
@@ -201,7 +201,8 @@ pub struct Answers<'b> {
     bd: u32,
     /// Number, n, eight colours and orientation.
     fields: [[u32; 11]; MAX_STRIP],
-    bits: [f32; MAX_STRIP],
+    /// Head and map bits.
+    bits: [[f32; 2]; MAX_STRIP],
     /// From the next block's places on.
     map: &'b [u8],
     flags: &'b [u8],
@@ -216,10 +217,9 @@ impl<'b> Iterator for Answers<'b> {
         let map = front(&mut self.map, width * height);
         let flags = front(&mut self.flags, width.max(height));
         let [number, fields @ ..] = self.fields[place];
-        Some(Refusal::check(number).map(|()| PaletteView {
-            bits: self.bits[place],
-            ..PaletteView::from_fields((width, height), self.bd, fields, map, flags)
-        }))
+        let bits = self.bits[place];
+        let found = || PaletteView::from_fields((width, height), self.bd, fields, bits, map, flags);
+        Some(Refusal::check(number).map(|()| found()))
     }
 
     fn size_hint(&self) -> (usize, Option<usize>) {

@@ -6,7 +6,7 @@
 mod common;
 
 use common::rows::{costs_of, drawn_table, DEFAULT_TABLE};
-use common::{block, halves, without_estimate, Drawn, Lined, Random};
+use common::{bitwise, block, counted, halves, uncounted, Drawn, Lined, Random};
 use palette_station::{
     block_allowed, context, list, pred, read, search, search_strip, search_strip_into, Block,
     Costs, Listing, Palette, Refusal,
@@ -78,20 +78,15 @@ impl Case {
     }
 }
 
-/// A palette with the bits of its estimate, which are to agree too.
-fn bitwise(answer: Result<Palette, Refusal>) -> Result<(Palette, u32), Refusal> {
-    answer.map(|palette| {
-        let bits = palette.bits.to_bits();
-        (palette, bits)
-    })
-}
-
 /// The smallest block seen in which a search that took subnormal numbers for 0 found other
 /// colours, two of them.
 const SMALLEST: [f32; 16] = [
     18.5, 17.75, 16.0, 16.0, 16.0, 16.0, 17.75, 16.0, 16.0, 16.0, 16.0, 16.0, 16.0, 17.75, 16.0,
     16.0,
 ];
+
+/// 8 + 2 + 5 + 5 bits of literals and one of orientation; the first index, of three.
+const COUNTED: [f32; 2] = [21.0, 2.0];
 
 const FREE: Costs = Costs::from_table([0.0; 301]);
 
@@ -100,7 +95,37 @@ fn the_smallest_block() {
     for (name, mode) in MODES {
         let palette = under(mode, || search(&block(&SMALLEST, 16, 1), 0.0, &FREE)).unwrap();
         assert_eq!(palette.colors[..], [16, 18, 19], "{name}");
-        assert_eq!(palette.bits.to_bits(), 69f32.to_bits(), "{name}");
+        assert_eq!(counted(&palette), COUNTED.map(f32::to_bits), "{name}");
+        let estimate = under(mode, || palette.estimate());
+        assert_eq!(estimate.to_bits(), 69f32.to_bits(), "{name}");
+    }
+}
+
+/// Sums and products that are subnormal, or no f32.
+#[test]
+fn an_estimate() {
+    let least = f32::from_bits(1);
+    let half_a_step = 1.0 / 16_777_216.0;
+    for (head, map_bits, due) in [
+        (16.0, 1.0, 51.0),
+        (least, 0.0, f32::from_bits(3)),
+        (1.0, half_a_step, 3.0),
+        (-1.0, -half_a_step, -3.0),
+        (0.1, 0.2, 0.90000004),
+    ] {
+        let palette = Palette {
+            head,
+            map_bits,
+            ..Palette::example()
+        };
+        for (name, mode) in MODES {
+            let estimate = under(mode, || palette.estimate());
+            assert_eq!(
+                estimate.to_bits(),
+                due.to_bits(),
+                "{name}: {head}, {map_bits}"
+            );
+        }
     }
 }
 
@@ -269,7 +294,11 @@ fn strips_with_lent_buffers() {
         for palette in answers {
             let palette = palette.unwrap();
             assert_eq!(palette.colors[..], [16, 18, 19], "{name}");
-            assert_eq!(palette.bits.to_bits(), 69f32.to_bits(), "{name}");
+            assert_eq!(
+                counted(&palette.to_palette()),
+                COUNTED.map(f32::to_bits),
+                "{name}"
+            );
         }
         let refused = under(mode, || {
             search_strip_into(&blocks, 0.0, &FREE, &mut map[1..], &mut flags)
@@ -308,7 +337,7 @@ fn lists_read_back() {
     for palette in palettes.take(100) {
         let words = list(&palette, &cache).expect("the search found it").words;
         let (width, height, bd) = (palette.width, palette.height, palette.bd);
-        let due = bitwise(Ok(without_estimate(&palette)));
+        let due = bitwise(Ok(uncounted(&palette)));
         for (name, mode) in MODES {
             let back = under(mode, || read(width, height, bd, &words, &cache));
             assert_eq!(bitwise(back), due, "{name}");

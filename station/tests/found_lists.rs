@@ -3,7 +3,7 @@
 mod common;
 
 use common::decode::decode;
-use common::{without_estimate, Random};
+use common::{uncounted, Random};
 use palette_station::{list, pred, read, replay, search, Coder, Costs, Palette, Refusal};
 use std::thread;
 
@@ -35,7 +35,7 @@ fn found_palettes_come_back_from_their_lists() {
     assert!(palettes.iter().any(|palette| palette.transposed));
     assert!(palettes.iter().any(|palette| palette.flags.contains(&2)));
     for palette in &palettes {
-        let due = without_estimate(palette);
+        let due = uncounted(palette);
         let (width, height, bd) = (palette.width, palette.height, palette.bd);
         for cache in caches(&mut random, palette) {
             let words = list(palette, &cache).expect("found, so listed").words;

@@ -93,7 +93,7 @@ fn found_answer(palette: &Palette) -> String {
         "= 0 {} {} {:08x} {} {}",
         packed(&palette.colors, 4),
         u8::from(palette.transposed),
-        palette.bits.to_bits(),
+        palette.estimate().to_bits(),
         packed(&palette.flags, 2),
         packed(&palette.map, 2)
     )
@@ -112,7 +112,8 @@ fn listed(case: &str) -> String {
         transposed: orientation == "1",
         map: unpacked(map, 2),
         flags: unpacked(flags, 2),
-        bits: 0.0,
+        head: 0.0,
+        map_bits: 0.0,
     };
     let cache: Vec<u16> = unpacked(cache, 4);
     let listing = list(&palette, &cache);

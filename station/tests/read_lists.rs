@@ -55,7 +55,8 @@ fn palette(random: &mut Random) -> Palette {
         transposed,
         map: cells.collect(),
         flags,
-        bits: 0.0,
+        head: 0.0,
+        map_bits: 0.0,
     }
 }
 

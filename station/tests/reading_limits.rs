@@ -45,7 +45,7 @@ fn the_shortest_list() {
     assert_eq!(palette.colors[..], [0, 1]);
     assert_eq!((palette.map, palette.flags), (vec![0; 64], vec![1]));
     assert!(!palette.transposed);
-    assert_eq!(palette.bits.to_bits(), 0);
+    assert_eq!([palette.head, palette.map_bits].map(f32::to_bits), [0; 2]);
 }
 
 #[test]

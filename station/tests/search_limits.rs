@@ -26,7 +26,8 @@ fn worked_block() {
     assert_eq!(palette.colors[..], [10, 20]);
     assert!(!palette.transposed);
     assert_eq!(palette.flags, [0]);
-    assert_eq!(palette.bits, 51.0);
+    assert_eq!((palette.head, palette.map_bits), (16.0, 1.0));
+    assert_eq!(palette.estimate(), 51.0);
     assert_eq!(palette.map[..9], [0, 0, 0, 0, 0, 0, 0, 0, 1]);
 }
 

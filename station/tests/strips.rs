@@ -2,21 +2,11 @@
 
 mod common;
 
-use common::{block, cases, halves, Drawn, Lined, Random, BYTE};
+use common::{bitwise, block, cases, halves, Bitwise, Drawn, Lined, Random, BYTE};
 use palette_station::{
     list, list_into, search, search_into, search_strip, search_strip_into, Answers, Block, Blocks,
     Costs, Palette, PaletteView, Refusal, MAX_WORDS,
 };
-
-/// An answer whose estimate is compared by its bits.
-type Bitwise = Result<(Palette, u32), Refusal>;
-
-fn bitwise(answer: Result<Palette, Refusal>) -> Bitwise {
-    answer.map(|palette| {
-        let bits = palette.bits.to_bits();
-        (palette, bits)
-    })
-}
 
 fn owned(answer: Result<PaletteView, Refusal>) -> Bitwise {
     bitwise(answer.map(|palette| palette.to_palette()))
@@ -236,7 +226,8 @@ fn palettes_outlive_blocks_and_answers() {
     assert_eq!(palettes.len(), 3);
     let mut words = [0; MAX_WORDS];
     for palette in palettes {
-        assert_eq!((&palette.colors[..], palette.bits), (&[10, 20][..], 51.0));
+        assert_eq!(palette.colors[..], [10, 20]);
+        assert_eq!((palette.head, palette.map_bits), (16.0, 1.0));
         assert_eq!(
             palette.map,
             [0, 0, 0, 0, 0, 0, 0, 0, 1, 1, 1, 1, 1, 1, 1, 1]

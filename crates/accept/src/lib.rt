@@ -14,13 +14,15 @@ ghost use Rattle.accept.specs.Palette.{firstColors, paletteOf};
 ghost use Rattle.accept.specs.Answer.{roomsOk, refusedBy};
 ghost use Rattle.accept.specs.Accepted.{sidesOk, colorsOk, orientOk, lineOk, refusal};
 
-// The answer: number 0 with the colours, their count, the orientation and the bit estimate, or a refusal with zeros.
+// The answer: number 0 with the colours, their count and the orientation, or a refusal with zeros; and, where search made
+// it, the bits that it counted for colours and map. `search::estimate` makes one figure of the two.
 pub struct Palette {
     pub number: u32,
     pub n: usize,
     pub colors: [u16; 8],
     pub transposed: bool,
-    pub bits: f32,
+    pub head: f32,
+    pub map_bits: f32,
 }
 
 pub fn within(low: usize, high: usize, x: usize) -> bool
@@ -252,6 +254,7 @@ pub fn refuse(number: u32) -> Palette
         n: 0,
         colors: [0u16; 8],
         transposed: false,
-        bits: 0.0,
+        head: 0.0,
+        map_bits: 0.0,
     }
 }

@@ -12,7 +12,7 @@ ghost use Rattle.costs.specs.Costs.{MakesCosts};
 ghost use Rattle.accept.specs.Palette.{paletteOf};
 ghost use Rattle.listing.specs.Listing.{Lists, Predicts};
 ghost use Rattle.reading.specs.Reading.{reading, Reads};
-ghost use Rattle.search.specs.Search.{Searches};
+ghost use Rattle.search.specs.Search.{estimateOf, Searches};
 ghost use Rattle.strip.specs.Strip.{Strips};
 
 // Whether a block of these sides, in units of 4, may have a palette.
@@ -53,6 +53,13 @@ pub fn search(
         (now (map .entry)) (now (map .exit)) (now (flags .entry)) (now (flags .exit)) r ⌝ }
 {
     search::search(samples, width, height, bd, lambda, costs, map, flags)
+}
+
+// The bit estimate of a palette that search made, which is 0 for any other: what the original calls `bits`.
+pub fn estimate(p: Palette) -> f32
+    ensures { λ r. ⌜ r ≡ estimateOf (p .head) (p .«map_bits») ⌝ }
+{
+    search::estimate(p.head, p.map_bits)
 }
 
 // Searches up to 64 blocks, given by their width and height pairs, with samples one block after the other. Each block's map and

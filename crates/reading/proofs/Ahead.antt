@@ -7,7 +7,6 @@ use native.Mathlib.Omega.{arith}
 use lib.Dec.{eqb}
 use lib.ListN.{length, take, drop, replicate, length-replicate}
 use lib.Seq.{length-take-le}
-use lib.Ieee.{binary32, ofBits}
 use Rattle.counts.specs.Counts.{orientSent}
 use Rattle.lists.proofs.Zeros.{zeros-below}
 use Rattle.near.specs.Near.{Below}
@@ -17,6 +16,7 @@ use Rattle.scan.proofs.Scans.{scan-sound, lines-are, lines-most}
 use Rattle.accept.specs.Palette as rules
 use Rattle.accept.specs.Palette.{firstColors, paletteOf}
 use Rattle.accept.specs.declared.Palette.{Palette}
+use Rattle.accept.specs.Answer.{uncounted}
 use Rattle.accept.proofs.Levels.{first-colors}
 use Rattle.reader.specs.Reader.{Got, after, ret}
 use Rattle.reader.specs.Steps.{told, Took}
@@ -115,20 +115,13 @@ module _ (b : Head) (cache ws : List ℕ) (cells lines : ℕ) (x : Headed b cach
         ∙ ap (λ (l : List ℕ). told place (record { colors = l; transposed = b .transposed; flags = flags; map = map }) ws) (sym first-are)
 
   pub answer-is : (map flags : List ℕ) → _≡_ {A = Palette}
-      (record { number = 0; n = b .n; colors = b .colors; transposed = b .transposed; bits = ofBits binary32 0 }) (answer (back (made map flags)))
+      (uncounted 0 (b .n) (b .colors) (b .transposed)) (answer (back (made map flags)))
   answer-is map flags =
       let count : length (firstColors (b .colors) (b .n)) ≡ b .n =
       ap length first-are ∙ length-take-le (b .n) (b .colors) (omega (arith, x .long, x .most)) in
       let eight : b .colors ≡ inEight (firstColors (b .colors) (b .n)) = x .eight ∙ ap (λ (l : List ℕ). inEight l) (sym first-are) in
-      ap (λ (k : ℕ). record { number = 0; n = k; colors = b .colors; transposed = b .transposed; bits = ofBits binary32 0 }) (sym count)
-      ∙ ap (λ (l : List ℕ). record {
-        number = 0;
-        n = length (firstColors (b .colors)
-            (b .n));
-        colors = l;
-        transposed = b .transposed;
-        bits = ofBits binary32 0;
-      }) eight
+      ap (λ (k : ℕ). uncounted 0 k (b .colors) (b .transposed)) (sym count)
+      ∙ ap (λ (l : List ℕ). uncounted 0 (length (firstColors (b .colors) (b .n))) l (b .transposed)) eight
 
   -- ---- what the code asks
 

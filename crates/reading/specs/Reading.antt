@@ -5,14 +5,13 @@ use mathlib.Core.Bool.{Bool, false, cond, not, _&&_}
 use mathlib.Core.List.{List, [], _∷_}
 use lib.Dec.{eqb}
 use lib.ListN.{length, replicate}
-use lib.Ieee.{binary32, ofBits}
 use Rattle.lists.specs.Written.{front}
 use Rattle.lists.specs.Same.{sameList}
 use Rattle.counts.specs.Counts.{orientSent}
 use Rattle.scan.specs.Scan.{scanOf}
 use Rattle.accept.specs.Palette as rules
 use Rattle.accept.specs.Accepted.{sidesOk, depthOk, cacheOk, refusal}
-use Rattle.accept.specs.Answer.{roomsOk, refusedBy}
+use Rattle.accept.specs.Answer.{roomsOk, uncounted, refusedBy}
 use Rattle.accept.specs.declared.Palette.{Palette}
 use Rattle.listing.specs.Listing.{callList}
 use Rattle.reader.specs.Reader.{Got, got, fault, Reader, _>>=_, ret, due}
@@ -65,10 +64,9 @@ reading w h bd cache cells lines ws =
     let k = limits w h bd (length cache) cells lines in
     cond (eqb k 0) (judge w h bd cache ws (readPalette w h bd cache ws)) (refused k)
 
--- the estimate is 0 in a palette that the search did not make
+-- head and map bits are 0, since the search did not make the palette
 abbrev pub answer : Outcome → Palette
-answer (back p) =
-    record { number = 0; n = length (p .colors); colors = inEight (p .colors); transposed = p .transposed; bits = ofBits binary32 0 }
+answer (back p) = uncounted 0 (length (p .colors)) (inEight (p .colors)) (p .transposed)
 answer (refused k) = refusedBy k
 
 -- the lent map and flags afterwards

@@ -7,12 +7,12 @@ ghost use mathlib.Core.Path.{_≡_};
 ghost use Prim.Native.Nat.{_*_, _≤_};
 ghost use lib.Dec.{eqb};
 ghost use lib.ListN.{length, take, drop, replicate};
-ghost use lib.Ieee.{binary32, ofBits};
 ghost use Rattle.lists.specs.Written.{front};
 ghost use Rattle.lists.specs.Same.{sameList};
 ghost use Rattle.rows.specs.Rows.{orderTable, codeTable};
 ghost use Rattle.scan.specs.Scan.{scanOf};
 ghost use Rattle.accept.specs.Palette.{paletteOf};
+ghost use Rattle.accept.specs.Answer.{uncounted};
 ghost use Rattle.reader.specs.Steps.{told};
 ghost use Rattle.reading.specs.Reading.{readOrient, relists, limits, reading, Reads};
 ghost use Rattle.reading.specs.Steps.{Headed};
@@ -114,7 +114,7 @@ fn deliver(b: Head, cells: &[u8], lines: &[u8], map: &mut [u8], flags: &mut [u8]
     requires { ⌜ (length (now cells) ≤ length (now map)) × (length (now lines) ≤ length (now flags)) ⌝ }
     ensures { λ r. ⌜ (now (map .exit) ≡ front (now (cells .entry)) (now (map .entry)))
         × (now (flags .exit) ≡ front (now (lines .entry)) (now (flags .entry))) ⌝ }
-    ensures { λ r. ⌜ r ≡ record { number = 0; n = b .n; colors = b .colors; transposed = b .transposed; bits = ofBits binary32 0 } ⌝ }
+    ensures { λ r. ⌜ r ≡ uncounted 0 (b .n) (b .colors) (b .transposed) ⌝ }
 {
     lists::copy_bytes(cells, cells.len(), map);
     lists::copy_bytes(lines, lines.len(), flags);
@@ -124,7 +124,8 @@ fn deliver(b: Head, cells: &[u8], lines: &[u8], map: &mut [u8], flags: &mut [u8]
         n: b.n,
         colors,
         transposed: b.transposed,
-        bits: 0.0,
+        head: 0.0,
+        map_bits: 0.0,
     }
 }
 

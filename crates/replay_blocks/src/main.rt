@@ -1,15 +1,14 @@
 // Replays the blocks of standard input through `search`, and prints a line of numbers for each. The expected lines
 // are made from the original's answers, never from ours (oracle/README.md).
-// A block's line: its place, the number, n, the orientation, the eight colours, the estimate's bits, a hash of the map's
-// cells, whether the places behind them kept what they held, a hash of the flags, and whether the places behind them
-// kept what they held.
+// A block's line: its place, the number, n, the orientation, the eight colours, the estimate, head and map bits, each by its
+// bits, a hash of the map's cells, whether the places behind them kept what they held, a hash of the flags, and whether the
+// places behind them kept what they held.
 // Functions here may have a `requires`.
 use replaying::BlockHead;
-use replaying::bits_of;
 use replaying::lines_of;
 use replaying::print_answer;
 use replaying::print_bytes;
-use replaying::print_number;
+use replaying::print_float;
 use replaying::written;
 ghost use mathlib.Core.Path.{_≡_};
 ghost use Prim.Native.Nat.{_≤_};
@@ -34,7 +33,9 @@ fn replay_search(a: BlockHead, samples: &[f32], costs: &[f32], map: &mut [u8], f
     let colors = found.colors;
     let lines = lines_of(a.width, a.height, found.transposed);
     print_answer(found.number, found.n, found.transposed, colors);
-    print_number(bits_of(found.bits) as u64);
+    print_float(palette::estimate(found));
+    print_float(found.head);
+    print_float(found.map_bits);
     print_bytes(map, written(found.number, a.cells));
     print_bytes(flags, written(found.number, lines));
 }

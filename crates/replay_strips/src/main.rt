@@ -5,8 +5,8 @@
 // Behind them stand the sides, of two bytes each, the costs (none where they serve again) and the samples, each by its bits,
 // of four bytes.
 // Its line: its place, the number, a hash of all 64 answers, a hash of the whole buffer for maps and one of that for flags.
-// A block's line, where the strip is not refused: the number, n, the orientation, the eight colours, the estimate's bits, a
-// hash of its part of the map and one of its part of the flags, written or not.
+// A block's line, where the strip is not refused: the number, n, the orientation, the eight colours, the estimate, head and map
+// bits, each by its bits, a hash of its part of the map and one of its part of the flags, written or not.
 // Functions here may have a `requires`.
 use accept::Palette;
 use replaying::at_most;
@@ -14,6 +14,7 @@ use replaying::bits_of;
 use replaying::hash_bytes;
 use replaying::hashed;
 use replaying::print_answer;
+use replaying::print_float;
 use replaying::print_number;
 use replaying::read_pairs;
 use replaying::size;
@@ -107,7 +108,7 @@ fn hash_colors(before: u64, colors: [u16; 8]) -> u64
     h
 }
 
-// Number, n, colours, orientation and the estimate's bits.
+// Number, n, colours, orientation, head and map bits.
 fn hash_answer(before: u64, p: Palette) -> u64
     requires { ⌜ before < 4294967291 ⌝ }
     ensures { λ r. ⌜ r < 4294967291 ⌝ }
@@ -115,7 +116,8 @@ fn hash_answer(before: u64, p: Palette) -> u64
     let n = at_most(p.n, 4294967295) as u32;
     let colors = p.colors;
     let h = hash_colors(hashed(hashed(before, p.number), n), colors);
-    hashed(hashed(h, p.transposed as u32), bits_of(p.bits))
+    let head = hashed(hashed(h, p.transposed as u32), bits_of(p.head));
+    hashed(head, bits_of(p.map_bits))
 }
 
 fn hash_answers(answers: [Palette; 64]) -> u64 {
@@ -133,7 +135,9 @@ fn print_block(p: Palette, map: &[u8], flags: &[u8], from: Places, to: Places)
 {
     let colors = p.colors;
     print_answer(p.number, p.n, p.transposed, colors);
-    print_number(bits_of(p.bits) as u64);
+    print_float(palette::estimate(p));
+    print_float(p.head);
+    print_float(p.map_bits);
     print_number(hash_bytes(map, from.cells, to.cells));
     print_number(hash_bytes(flags, from.lines, to.lines));
     io::write_all(1, b"\n");

@@ -139,6 +139,11 @@ pub fn print_number(v: u64) {
     io::print_decimal(1, v);
 }
 
+// A float, by its bits.
+pub fn print_float(v: f32) {
+    print_number(bits_of(v) as u64);
+}
+
 // The hash of what was written, and whether the places behind it are as before the call.
 pub fn print_buffer(words: &[u32; 4240], count: usize, before: u32) {
     print_number(hash(words, at_most(count, 4240)));

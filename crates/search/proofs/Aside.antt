@@ -6,10 +6,9 @@ use native.Mathlib.Omega.{arith}
 use native.Mathlib.Nat.{mul-le-mul}
 use lib.ListN.{length, take}
 use lib.Seq.{length-take-le}
-use lib.Ieee.{Float, binary32, mul, ofBits, ofInt, round}
+use lib.Ieee.{Float}
 use Rattle.lists.specs.Written.{written, front}
 use Rattle.lists.proofs.Written.{written-front}
-use Rattle.ieee.specs.Numbers.{nat}
 use Rattle.samples.proofs.Ranges.{costs-count}
 use Rattle.groups.specs.declared.Histogram.{Histogram}
 use Rattle.groups.specs.Tables.{TablesOf}
@@ -85,16 +84,3 @@ module _ {samples costs : List Float} {b : Block} {room lineRoom : ℕ} (ready :
                 f ∙ written-front flags₀ (take count lines) q
                 ∙ ap (λ ws. front ws flags₀) (ap (λ k. take k lines) c ∙ all-lines);
           })
-
--- the code's 3.0
-three : ofBits binary32 1077936128 ≡ nat binary32 3
-unfolding ofBits ofInt round
-three = refl
-
-abbrev paletteWith : Best → Float → Palette
-paletteWith best factor =
-    let bits = mul binary32 (best .bits) factor in
-    record { number = 0; n = best .n; colors = best .colors; transposed = best .transposed; bits = bits }
-
-pub as-palette : (best : Best) → paletteWith best (ofBits binary32 1077936128) ≡ paletteBy best
-as-palette best = ap (paletteWith best) three

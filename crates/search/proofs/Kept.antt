@@ -40,6 +40,9 @@ pub record Kept (samples costs : List Float) (b : Block) (h : Histogram) (s : St
   pub bound : Float
   pub error : Float
   pub bits : Float
+  -- head and map bits are those of this size and this map
+  pub headed : s .best .head ≡ headOf costs b (centersOf h (s .best .n))
+  pub counted : s .best .«map_bits» ≡ bits
   pub whole : built samples costs b h (s .best .n) (s .best .transposed) bound
       ≡ record { map = s .map; flags = s .flags; result = Found error bits }
 
@@ -50,12 +53,19 @@ module _ (samples costs : List Float) (b : Block) (h : Histogram) where
     ended = built samples costs b h k t bound
 
     module _ (has : SizeTo (h .n) k) (sent : t ≡ true → orientSent (b .width) (b .height) ≡ true) where
-      found-kept : (total all error bits : Float) → ended .result ≡ Found error bits → Kept samples costs b h (record {
-        best = record { total = total; n = k; colors = groupsOf h k .colors; transposed = t; bits = all };
+      found-kept : (total error bits : Float) → ended .result ≡ Found error bits → Kept samples costs b h (record {
+        best = record {
+          total = total;
+          n = k;
+          colors = groupsOf h k .colors;
+          transposed = t;
+          head = headOf costs b (centersOf h k);
+          «map_bits» = bits;
+        };
         map = ended .map;
         flags = ended .flags;
       })
-      found-kept total all error bits e = record {
+      found-kept total error bits e = record {
         two = has .0;
         eight = has .1;
         few = has .2;
@@ -64,6 +74,8 @@ module _ (samples costs : List Float) (b : Block) (h : Histogram) where
         bound = bound;
         error = error;
         bits = bits;
+        headed = refl;
+        counted = refl;
         whole = ap (λ (r : MapResult). record { map = ended .map; flags = ended .flags; result = r }) e;
       }
 
@@ -72,7 +84,7 @@ module _ (samples costs : List Float) (b : Block) (h : Histogram) where
           → Kept samples costs b h (judged b (sizeOf costs b h k) t s (ended .map) (ended .flags) r)
       judged-kept s p Beaten e = p
       judged-kept s p (Found error bits) e =
-          either-way (Kept samples costs b h) (lt _ (s .best .total)) _ s (found-kept _ _ error bits e) p
+          either-way (Kept samples costs b h) (lt _ (s .best .total)) _ s (found-kept _ error bits e) p
 
       -- nothing stood, and the map's total is finite
       pub judged-first : (error bits : Float) (A : ℕ)
@@ -80,7 +92,7 @@ module _ (samples costs : List Float) (b : Block) (h : Histogram) where
           Under (add binary32 error (mul binary32 (b .lambda) all)) A)
           → ended .result ≡ Found error bits → (r : MapResult) → r ≡ Found error bits
           → Kept samples costs b h (judged b (sizeOf costs b h k) t none (ended .map) (ended .flags) r)
-      judged-first error bits A u e r i = rw (i, under-lt _ A u) (found-kept _ _ error bits e)
+      judged-first error bits A u e r i = rw (i, under-lt _ A u) (found-kept _ error bits e)
 
   -- ---- what stands stays found
   tried-kept : (k : ℕ) → SizeTo (h .n) k → (t : Bool) → (t ≡ true → orientSent (b .width) (b .height) ≡ true)

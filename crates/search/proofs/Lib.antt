@@ -12,4 +12,5 @@ pub mod Price
 pub mod Tries
 pub mod Walk
 pub mod Aside
+pub mod Figure
 pub mod Answer

@@ -47,7 +47,7 @@ module _ (b : Block) (z : Size) (t : Bool) {best : Best} (error bits : Float) (c
       → map ≡ written map₀ 0 (take (length cells) cells) → flags ≡ written flags₀ 0 (take (length lines) lines)
       → lt total (best .total) ≡ true
       → Stands (judged b z t s cells lines (Found error bits))
-      (record { total = total; n = z .n; colors = z .colors; transposed = t; bits = all }) map flags
+      (record { total = total; n = z .n; colors = z .colors; transposed = t; head = z .head; «map_bits» = bits }) map flags
   lower-stands map flags room lineRoom m f e =
       rw (rw (S .is) at e) (record {
         is = refl;

@@ -33,7 +33,8 @@ pub record Standing : Type 0 where
 
 abbrev pub none : Standing
 none =
-    let best : Best = record { total = inf false; n = 0; colors = replicate 8 0; transposed = false; bits = ofBits binary32 0 } in
+    let zero = ofBits binary32 0 in
+    let best : Best = record { total = inf false; n = 0; colors = replicate 8 0; transposed = false; head = zero; «map_bits» = zero } in
     record { best = best; map = []; flags = [] }
 
 -- what stands after a map of size z: a found one only if its total is strictly lower
@@ -42,7 +43,7 @@ judged b z t s map flags Beaten = s
 judged b z t s map flags (Found error bits) =
     let all = add binary32 (z .head) bits in
     let total = add binary32 error (mul binary32 (b .lambda) all) in
-    let best : Best = record { total = total; n = z .n; colors = z .colors; transposed = t; bits = all } in
+    let best : Best = record { total = total; n = z .n; colors = z .colors; transposed = t; head = z .head; «map_bits» = bits } in
     cond (lt total (s .best .total)) (record { best = best; map = map; flags = flags }) s
 
 -- the levels of a block
@@ -112,11 +113,14 @@ searchNumber samples costs b cells lines =
     let fault = faultOf samples costs b cells lines in
     cond (eqb fault 0) (levelsFault (histogramIn samples .n)) fault
 
--- the bit estimate is (head + map bits) × 3
+-- document 02, L8: head and map bits are kept apart
 abbrev pub paletteBy : Best → Palette
 paletteBy b =
-    let bits = mul binary32 (b .bits) (nat binary32 3) in
-    record { number = 0; n = b .n; colors = b .colors; transposed = b .transposed; bits = bits }
+    record { number = 0; n = b .n; colors = b .colors; transposed = b .transposed; head = b .head; «map_bits» = b .«map_bits» }
+
+-- the bit estimate is (head + map bits) × 3
+abbrev pub estimateOf : Float → Float → Float
+estimateOf head mapBits = mul binary32 (add binary32 head mapBits) (nat binary32 3)
 
 -- the answer for a map of so many cells and so many flags
 abbrev pub answerOf : List Float → List Float → Block → ℕ → ℕ → Palette

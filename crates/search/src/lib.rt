@@ -14,7 +14,7 @@ ghost use Rattle.context.specs.Map.{linesOf};
 ghost use Rattle.rows.specs.Rows.{Tables};
 ghost use Rattle.map_search.specs.Parts.{Built};
 ghost use Rattle.sizes.specs.Known.{Known};
-ghost use Rattle.search.specs.Search.{Standing, judged, mapIn, tried, triedBoth, searched, histogramIn, foundIn, Searches};
+ghost use Rattle.search.specs.Search.{Standing, judged, mapIn, tried, triedBoth, searched, histogramIn, foundIn, estimateOf, Searches};
 ghost use Rattle.search.specs.Search.{largeOk, faultOf, levelsFault};
 ghost use Rattle.search.specs.Steps.{priceFault, Passed, Sized, Stands, Written};
 
@@ -24,7 +24,15 @@ pub struct Best {
     pub n: usize,
     pub colors: [u16; 8],
     pub transposed: bool,
-    pub bits: f32,
+    pub head: f32,
+    pub map_bits: f32,
+}
+
+// The bit estimate: what the original calls `bits`.
+pub fn estimate(head: f32, map_bits: f32) -> f32
+    ensures { λ r. ⌜ r ≡ estimateOf head «map_bits» ⌝ }
+{
+    (head + map_bits) * 3.0
 }
 
 // Number 8: a side of 16 or more.
@@ -137,7 +145,8 @@ fn judge(
             n: z.n,
             colors,
             transposed,
-            bits: all,
+            head: z.head,
+            map_bits: bits,
         };
     }
     best
@@ -413,7 +422,8 @@ fn best_of(
         n: 0,
         colors: [0u16; 8],
         transposed: false,
-        bits: 0.0,
+        head: 0.0,
+        map_bits: 0.0,
     };
     let mut k = sizes::next_size(&lbs, &left);
     while k != 0 {
@@ -474,7 +484,8 @@ fn search_in(
         n: best.n,
         colors,
         transposed: best.transposed,
-        bits: best.bits * 3.0,
+        head: best.head,
+        map_bits: best.map_bits,
     }
 }
 

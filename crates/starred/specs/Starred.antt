@@ -32,7 +32,9 @@ use Rattle.map_search.specs.Lines.{distLine, cellAt, cellsOf, constants, candid
 use Rattle.sizes.specs.declared.Block.{Block}
 use Rattle.sizes.specs.Sizes.{headOf, leastOf}
 use Rattle.sizes.specs.Order.{those, ordered}
+use Rattle.accept.specs.declared.Palette.{Palette as Answer}
 use Rattle.accept.specs.Answer.{refusedBy}
+use Rattle.search.specs.Estimated.{estimateIn}
 use Rattle.search.specs.Search.{tried, triedBoth, visited, searched, faultOf, levelsFault, searchNumber, paletteBy, answerOf, histogramIn, foundIn}
 use Rattle.accept.specs.Accepted.{sidesOk, depthOk, colorsOk, orientOk, cacheOk, countsOk, lineOk, mapOk, refusal}
 use Rattle.fields.specs.Fields.{isDigit, column, columns, fieldAt, isLine, lineNumbers, areRows, rowNumbers}
@@ -48,16 +50,24 @@ edge = replicate 8 (nat binary32 10) ++ replicate 8 (nat binary32 20)
 abbrev edgeBlock : Block
 edgeBlock = record { width = 16; height = 1; bd = 8; lambda = nat binary32 0 }
 
--- what search answers for it: number, n, colours, orientation, the estimate's whole part and what is left of it; the flags and the map
+-- the whole part of a float and what is left of it
+abbrev whole : Float → List ℕ
+whole x = num x / den x ∷ num x % den x ∷ []
+
+-- the estimate, head and map bits
+abbrev figures : Answer → List ℕ
+figures p = whole (estimateIn p) ++ (whole (p .head) ++ whole (p .«map_bits»))
+
+-- what search answers for it: number, n, colours, orientation, its figures; the flags and the map
 pub found : List ℕ
 found =
     let p = answerOf edge (replicate 301 (nat binary32 0)) edgeBlock 16 16 in
     let s = foundIn edge (replicate 301 (nat binary32 0)) edgeBlock in
-    p .number ∷ p .n ∷ (p .colors ++ (bit (p .transposed) ∷ num (p .bits) / den (p .bits) ∷ num (p .bits) % den (p .bits) ∷ (s .flags ++ s .map)))
+    p .number ∷ p .n ∷ (p .colors ++ (bit (p .transposed) ∷ (figures p ++ (s .flags ++ s .map))))
 
--- colours 10 and 20, plain, estimate 51, flag 0
+-- colours 10 and 20, plain, estimate 51 (head 16, map bits 1), flag 0
 abbrev edgeAnswer : List ℕ
-edgeAnswer = 0 ∷ 2 ∷ 10 ∷ 20 ∷ (replicate 6 0 ++ (0 ∷ 51 ∷ 0 ∷ (0 ∷ (replicate 8 0 ++ replicate 8 1))))
+edgeAnswer = 0 ∷ 2 ∷ 10 ∷ 20 ∷ (replicate 6 0 ++ (0 ∷ 51 ∷ 0 ∷ 16 ∷ 0 ∷ 1 ∷ 0 ∷ (0 ∷ (replicate 8 0 ++ replicate 8 1))))
 
 -- the listing program's example, 4 by 2
 pub block : Palette
@@ -139,7 +149,7 @@ told h =
     let number = cond (eqb fault 0) (levelsFault (h .n)) fault in
     let s = searched edge costs edgeBlock h in
     let p = cond (eqb number 0) (paletteBy (s .best)) (refusedBy number) in
-    p .number ∷ p .n ∷ (p .colors ++ (bit (p .transposed) ∷ num (p .bits) / den (p .bits) ∷ num (p .bits) % den (p .bits) ∷ (s .flags ++ s .map)))
+    p .number ∷ p .n ∷ (p .colors ++ (bit (p .transposed) ∷ (figures p ++ (s .flags ++ s .map))))
 
 computed : told (record { n = 2; w = 8 ∷ 8 ∷ replicate 30 0; s = 80 ∷ 160 ∷ replicate 30 0; q = 800 ∷ 3200 ∷ replicate 30 0 })
     ≡ edgeAnswer

@@ -1,4 +1,4 @@
--- The answers of a strip in rows, one behind the other. Assumes nothing.
+-- The answers of a strip in rows and in pairs, one behind the other. Assumes nothing.
 use mathlib.Core.Path.{_≡_, refl, sym, ap, _∙_}
 use mathlib.Core.Bool.{Bool, true, false}
 use mathlib.Core.List.{List, [], _∷_, _++_, append-assoc}
@@ -20,25 +20,47 @@ use Rattle.accept.specs.declared.Palette.{Palette}
 use Rattle.accept.specs.Answer.{refusedBy}
 use Rattle.search.proofs.Answer.{few-colors}
 use Rattle.strip.specs.Strip.{Searched}
-use Rattle.station.specs.Searched.{fieldsOf}
-use Rattle.station.specs.Strip.{rowOf, rowAt, rowsOf, Few}
+use Rattle.station.specs.Searched.{fieldsOf, bitsOf}
+use Rattle.station.specs.Strip.{rowOf, rowAt, pairAt, Few}
 use Rattle.station.proofs.Arrays.{filled}
 
--- the rows of the answers before the i-th stand in front
-pub record Begun (answers : List Palette) (rows : List ℕ) (i : ℕ) : Type 0 where
-  pub most : i ≤ 64
-  pub count : length rows ≡ 704
-  pub front : take (11 * i) rows ≡ upTo (rowAt answers) i
+-- of 64 answers, each told in k places, those before the i-th stand in front
+module _ {A : Type 0} (k : ℕ) (told : ℕ → List A) where
+  pub record Begun (out : List A) (i : ℕ) : Type 0 where
+    pub most : i ≤ 64
+    pub count : length out ≡ k * 64
+    pub front : take (k * i) out ≡ upTo told i
 
-pub begins : (answers : List Palette) (rows : List ℕ) → length rows ≡ 704 → Begun answers rows 0
-unfolding upTo
-begins answers rows e = record { most = omega arith; count = e; front = refl }
+  pub begins : (out : List A) → length out ≡ k * 64 → Begun out 0
+  unfolding upTo
+  begins out e = record { most = omega arith; count = e; front = refl }
 
-pub ends : (answers : List Palette) (rows : List ℕ) (i : ℕ) → Begun answers rows i → 64 ≤ i → rows ≡ rowsOf answers
-ends answers rows i b h =
-    let m = b .most in
-    let e : i ≡ 64 = omega arith in
-    sym (take-all 704 rows (le-of-eq (b .count))) ∙ rw e at (b .front)
+  pub ends : (out : List A) (i : ℕ) → Begun out i → 64 ≤ i → out ≡ upTo told 64
+  ends out i b h =
+      let m = b .most in
+      let e : i ≡ 64 = omega arith in
+      sym (take-all (k * 64) out (le-of-eq (b .count))) ∙ rw e at (b .front)
+
+-- a pair is put: head and map bits
+pub pair-turn : (answers : List Palette) (bits : List Float) (i : ℕ) → Begun 2 (pairAt answers) bits i → i < 64
+    → (p : Palette) → p ≡ getD answers i (refusedBy 0)
+    → Begun 2 (pairAt answers) (set (set bits (2 * i) (p .head)) (2 * i + 1) (p .«map_bits»)) (i + 1)
+pair-turn answers bits i b h p is =
+    let c = b .count in
+    let headed = set bits (2 * i) (p .head) in
+    let long : length headed ≡ 128 = length-set bits (2 * i) (p .head) ∙ c in
+    let k : 2 * (i + 1) ≡ 2 * i + 1 + 1 = omega arith in
+    let first : take (2 * i + 1) headed ≡ upTo (pairAt answers) i ++ (p .head ∷ []) =
+    rw add-one (take-suc-set bits (2 * i) (p .head) (omega arith)) ∙ ap (λ x. x ++ (p .head ∷ [])) (b .front) in
+    record {
+      most = omega arith;
+      count = length-set headed (2 * i + 1) (p .«map_bits») ∙ long;
+      front = ap (λ m. take m (set headed (2 * i + 1) (p .«map_bits»))) k
+          ∙ rw add-one (take-suc-set headed (2 * i + 1) (p .«map_bits») (omega (arith, long)))
+          ∙ ap (λ x. x ++ (p .«map_bits» ∷ [])) first
+          ∙ append-assoc (upTo (pairAt answers) i) (p .head ∷ []) (p .«map_bits» ∷ [])
+          ∙ ap (λ q. upTo (pairAt answers) i ++ bitsOf q) is ∙ sym (upTo-more (pairAt answers) i);
+    }
 
 -- room for the fields behind the number
 pub ten-places : (rows : List ℕ) (i number : ℕ) → length rows ≡ 704 → i < 64
@@ -48,7 +70,7 @@ ten-places rows i number e h =
     omega (arith, mid-len (11 * i + 1) (11 * i + 11) (set rows (11 * i) number) (omega arith))
 
 -- a row is put: the number, and the fields in the ten places behind it
-module _ (answers : List Palette) (rows : List ℕ) (i : ℕ) (b : Begun answers rows i) (h : i < 64) (p : Palette)
+module _ (answers : List Palette) (rows : List ℕ) (i : ℕ) (b : Begun 11 (rowAt answers) rows i) (h : i < 64) (p : Palette)
     (is : p ≡ getD answers i (refusedBy 0)) (fields new : List ℕ) (f : fields ≡ fieldsOf (p .n) (p .colors) (p .transposed))
     (ten : length fields ≡ 10) where
   abbrev from : ℕ
@@ -85,7 +107,7 @@ module _ (answers : List Palette) (rows : List ℕ) (i : ℕ) (b : Begun answers
         ∙ ap (λ x. upTo (rowAt answers) i ++ (p .number ∷ x)) (news ∙ f)
         ∙ ap (λ q. upTo (rowAt answers) i ++ rowOf q) is ∙ sym (upTo-more (rowAt answers) i)
 
-    pub turn : Begun answers (putMid from (to - from) numbered new) (i + 1)
+    pub turn : Begun 11 (rowAt answers) (putMid from (to - from) numbered new) (i + 1)
     turn =
         let k : 11 * (i + 1) ≡ to = omega arith in
         record {

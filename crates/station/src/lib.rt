@@ -12,8 +12,9 @@ ghost use Rattle.listing.specs.Listing.{Predicts};
 ghost use Rattle.station.specs.Context.{contextWords};
 ghost use Rattle.station.specs.Listed.{ListsTo};
 ghost use Rattle.reading.specs.Reading.{reading};
+ghost use Rattle.search.specs.Search.{estimateOf};
 ghost use Rattle.station.specs.Searched.{fieldsOf, SearchesTo};
-ghost use Rattle.station.specs.Strip.{Few, rowsOf, estimatesOf, StripsTo};
+ghost use Rattle.station.specs.Strip.{Few, rowsOf, pairsOf, StripsTo};
 ghost use Rattle.station.specs.Read.{ReadsTo};
 ghost use lib.ListN.{length};
 ghost use Prim.Native.Nat.{_≤_};
@@ -114,7 +115,7 @@ pub extern "C" fn palette_search(
     map: &mut [u8],
     flags: &mut [u8],
     found: &mut [u32; 10],
-    bits: &mut f32,
+    bits: &mut [f32; 2],
 ) -> u32
     ensures { λ r. ⌜ SearchesTo (now (samples .entry)) (now (costs .entry))
         (record { width = width; height = height; bd = bd; lambda = lambda })
@@ -124,8 +125,15 @@ pub extern "C" fn palette_search(
     let answer = palette::search(samples, width, height, bd, lambda, costs, map, flags);
     let colors = answer.colors;
     *found = in_fields(answer.n, colors, answer.transposed);
-    *bits = answer.bits;
+    *bits = [answer.head, answer.map_bits];
     answer.number
+}
+
+#[no_mangle]
+pub extern "C" fn palette_estimate(head: f32, map: f32) -> f32
+    ensures { λ r. ⌜ r ≡ estimateOf head map ⌝ }
+{
+    search::estimate(head, map)
 }
 
 // A row of eleven for each answer: its number, then its fields.
@@ -147,14 +155,17 @@ fn in_rows(answers: [Palette; 64]) -> [u32; 704]
     rows
 }
 
-fn estimates_of(answers: [Palette; 64]) -> [f32; 64]
-    ensures { λ r. ⌜ r ≡ estimatesOf answers ⌝ }
+// Head and map bits of each answer.
+fn in_pairs(answers: [Palette; 64]) -> [f32; 128]
+    ensures { λ r. ⌜ r ≡ pairsOf answers ⌝ }
 {
-    let mut bits = [0.0f32; 64];
+    let mut bits = [0.0f32; 128];
     let mut i: usize = 0;
     while i < 64 {
         let p = answers[i];
-        bits[i] = p.bits;
+        let at = 2 * i;
+        bits[at] = p.head;
+        bits[at + 1] = p.map_bits;
         i += 1;
     }
     bits
@@ -170,7 +181,7 @@ pub extern "C" fn palette_strip(
     map: &mut [u8],
     flags: &mut [u8],
     answers: &mut [u32; 704],
-    bits: &mut [f32; 64],
+    bits: &mut [f32; 128],
 ) -> u32
     ensures { λ r. ⌜ StripsTo (now (sides .entry)) (now (samples .entry)) (now (costs .entry)) bd lambda
         (now (map .entry)) (now (map .exit)) (now (flags .entry)) (now (flags .exit)) (now (answers .exit)) (now (bits .exit)) r ⌝ }
@@ -178,7 +189,7 @@ pub extern "C" fn palette_strip(
     let strip = palette::search_strip(sides, samples, bd, lambda, costs, map, flags);
     let found = strip.answers;
     *answers = in_rows(found);
-    *bits = estimates_of(found);
+    *bits = in_pairs(found);
     strip.number
 }
 

@@ -156,7 +156,7 @@ fn searched(block: [f32; 16], lambda: f32) -> Row {
         colors,
         transposed: found.transposed,
         flag: flags[0],
-        estimate: found.bits,
+        estimate: palette::estimate(found),
     }
 }
 

@@ -112,7 +112,7 @@ impl Against<'_> {
         let listed = due.as_ref().map(Listed::of);
         for archive in self.archives {
             let answer = archive.search(&block, prices, &mut room);
-            if answer != number || !room.holds(due.as_ref()) {
+            if answer != number || !room.holds(archive, due.as_ref()) {
                 return None;
             }
             let same = |listed: &Listed| listed.same(archive, &block, due.as_ref(), &mut room);
@@ -200,10 +200,10 @@ fn round_of_original<'a>(chosen: impl Iterator<Item = &'a mut Timed>, prices: &P
 }
 
 impl Room {
-    /// Whether it holds a search's whole answer.
-    fn holds(&self, due: Option<&Found>) -> bool {
-        self.holds_palette(due)
-            && self.bits.to_bits() == due.map_or(0, |found| found.bits.to_bits())
+    /// Whether it holds an archive's whole answer to a search.
+    fn holds(&self, archive: &Archive, due: Option<&Found>) -> bool {
+        let estimate = archive.estimate(self).to_bits();
+        self.holds_palette(due) && estimate == due.map_or(0, |found| found.bits.to_bits())
     }
 
     fn holds_palette(&self, due: Option<&Found>) -> bool {

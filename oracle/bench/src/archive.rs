@@ -25,7 +25,7 @@ type Search = unsafe extern "C" fn(
     flags: *mut u8,
     flag_room: usize,
     found: *mut [u32; 10],
-    bits: *mut f32,
+    bits: *mut [f32; 2],
 ) -> u32;
 
 type List = unsafe extern "C" fn(
@@ -61,6 +61,8 @@ type Read = unsafe extern "C" fn(
     read: *mut [u32; 10],
 ) -> u32;
 
+type Estimate = unsafe extern "C" fn(head: f32, map: f32) -> f32;
+
 extern "C" {
     fn dlopen(path: *const c_char, mode: c_int) -> *mut c_void;
     fn dlsym(library: *mut c_void, name: *const c_char) -> *mut c_void;
@@ -69,11 +71,13 @@ extern "C" {
 /// `RTLD_NOW` of Linux. Names stay the library's own, so two with the same ones go together.
 const NOW: c_int = 2;
 
-/// Three functions of an archive. It stays loaded until the program ends.
+/// Functions of an archive. It stays loaded until the program ends.
 pub struct Archive {
     search: Search,
     list: List,
     read: Read,
+    /// Archives from before L8 have none.
+    estimate: Option<Estimate>,
 }
 
 /// Where search and reading write.
@@ -82,7 +86,8 @@ pub struct Room {
     pub flags: Vec<u8>,
     /// n, eight colours and orientation.
     pub fields: [u32; 10],
-    pub bits: f32,
+    /// Head and map bits; the first is the estimate where an archive knows no others.
+    pub bits: [f32; 2],
 }
 
 impl Room {
@@ -91,7 +96,7 @@ impl Room {
             map: vec![0; block.samples.len()],
             flags: vec![0; block.w.max(block.h)],
             fields: [0; 10],
-            bits: 0.0,
+            bits: [0.0; 2],
         }
     }
 }
@@ -105,6 +110,9 @@ impl Archive {
                 search: mem::transmute::<*mut c_void, Search>(find(library, "palette_search")?),
                 list: mem::transmute::<*mut c_void, List>(find(library, "palette_list")?),
                 read: mem::transmute::<*mut c_void, Read>(find(library, "palette_read")?),
+                estimate: find(library, "palette_estimate")
+                    .ok()
+                    .map(|place| mem::transmute::<*mut c_void, Estimate>(place)),
             })
         }
     }
@@ -130,6 +138,14 @@ impl Archive {
                 &mut room.bits,
             )
         }
+    }
+
+    /// The estimate of what was searched last.
+    pub fn estimate(&self, room: &Room) -> f32 {
+        let [head, map_bits] = room.bits;
+        // SAFETY: it takes and gives numbers alone.
+        self.estimate
+            .map_or(head, |estimate| unsafe { estimate(head, map_bits) })
     }
 
     /// Lists without a cache. `colors` are the palette's in eight places.

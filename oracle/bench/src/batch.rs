@@ -1,7 +1,8 @@
 //! Blocks of a sheet that are timed together, with the buffers that ours writes to.
 
 use palette_compare::due::Due;
-use palette_oracle::check::none_number;
+use palette_oracle::answers::split_of;
+use palette_oracle::check::{none_number, Asked};
 use palette_oracle::generate::sheets::{Cut, DEPTH};
 use palette_oracle::Found;
 use palette_station::{read_into, search_into, Block, Costs, PaletteView, Refusal};
@@ -54,9 +55,21 @@ pub fn read_ours<'r>(
 
 /// The original's answer with the number that document 01 gives the block.
 pub fn due(block: &Cut, prices: &Prices) -> Due {
+    let number = none_number(&block.samples, block.w, block.h);
+    let asked = Asked {
+        w: block.w,
+        h: block.h,
+        bd: DEPTH,
+        lambda: prices.lambda,
+        costs: prices.costs.as_table(),
+        samples: &block.samples,
+        map_room: usize::MAX,
+        flag_room: usize::MAX,
+    };
     Due {
-        number: none_number(&block.samples, block.w, block.h),
+        number,
         found: search_original(block, prices),
+        split: split_of(&asked, number),
     }
 }
 

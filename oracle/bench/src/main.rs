@@ -131,9 +131,9 @@ fn looked_at(block: Cut, prices: &Prices, outcome: &mut Outcome) -> Option<Timed
     })
 }
 
-/// Whether the palette's list is read as that palette; its estimate is in no list.
+/// Whether the palette's list is read as that palette; what the search counted is in no list.
 fn reads_as(palette: &Palette, block: &Cut, words: &[u32], room: &mut Room) -> bool {
     let mut due = palette.view();
-    due.bits = 0.0;
+    (due.head, due.map_bits) = (0.0, 0.0);
     read_ours(block, words, room) == Ok(due)
 }

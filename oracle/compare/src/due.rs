@@ -1,15 +1,17 @@
 //! What a search must answer, held beside an answer of the package `palette-station`.
 
+use palette_oracle::map_searches::Split;
 use palette_oracle::Found;
 use palette_station::{Colors, PaletteView, Refusal};
 
 /// A name for what is compared, and whether it is the same.
 pub type Same = (&'static str, bool);
 
-/// Document 01's number, and the original's palette if there is one.
+/// Document 01's number, and the original's palette if there is one, with its head and map bits.
 pub struct Due {
     pub number: u32,
     pub found: Option<Found>,
+    pub split: Split,
 }
 
 impl Due {
@@ -33,7 +35,12 @@ impl Due {
             ("n", ours.colors.len() == palette.colors.len()),
             ("colours", colors == Ok(ours.colors)),
             ("orientation", ours.transposed == palette.transposed),
-            ("estimate", ours.bits.to_bits() == bits.to_bits()),
+            ("estimate", ours.estimate().to_bits() == bits.to_bits()),
+            ("head", ours.head.to_bits() == self.split.head.to_bits()),
+            (
+                "map bits",
+                ours.map_bits.to_bits() == self.split.map_bits.to_bits(),
+            ),
             ("map", ours.map == palette.map),
             ("flags", ours.flags == palette.flags),
         ]

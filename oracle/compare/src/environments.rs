@@ -65,8 +65,12 @@ fn set(register: u32) {
     unsafe { asm!("ldmxcsr [{}]", in(reg) &raw const register, options(nostack)) };
 }
 
-/// With the bits of the estimate, which are to agree too.
-fn packaged(request: &SearchRequest, costs: &Costs, mode: u32) -> Result<(Palette, u32), Refusal> {
+/// With the bits of head, map bits and estimate, which are to agree too.
+fn packaged(
+    request: &SearchRequest,
+    costs: &Costs,
+    mode: u32,
+) -> Result<(Palette, [u32; 3]), Refusal> {
     let block = Block {
         samples: &request.samples,
         width: request.w,
@@ -75,8 +79,9 @@ fn packaged(request: &SearchRequest, costs: &Costs, mode: u32) -> Result<(Palett
     };
     let answer = under(mode, || search(&block, request.lambda, costs));
     answer.map(|palette| {
-        let bits = palette.bits.to_bits();
-        (palette, bits)
+        let estimate = under(mode, || palette.estimate());
+        let figures = [palette.head, palette.map_bits, estimate].map(f32::to_bits);
+        (palette, figures)
     })
 }
 
@@ -85,7 +90,7 @@ fn packaged(request: &SearchRequest, costs: &Costs, mode: u32) -> Result<(Palett
 struct Answer {
     number: u32,
     found: [u32; 10],
-    bits: u32,
+    bits: [u32; 2],
     map: Vec<u8>,
     flags: Vec<u8>,
 }
@@ -105,13 +110,13 @@ extern "C" {
         flags: *mut u8,
         flag_room: usize,
         found: *mut [u32; 10],
-        bits: *mut f32,
+        bits: *mut [f32; 2],
     ) -> u32;
 }
 
 fn direct(request: &SearchRequest, mode: u32) -> Answer {
     let (mut map, mut flags) = (vec![0; request.map_room], vec![0; request.flag_room]);
-    let (mut found, mut bits) = ([0; 10], 0.0);
+    let (mut found, mut bits) = ([0; 10], [0.0; 2]);
     // SAFETY: each pointer and length is of one vector, and the four mutable ones are apart.
     let number = under(mode, || unsafe {
         palette_search(
@@ -134,7 +139,7 @@ fn direct(request: &SearchRequest, mode: u32) -> Answer {
     Answer {
         number,
         found,
-        bits: bits.to_bits(),
+        bits: bits.map(f32::to_bits),
         map,
         flags,
     }

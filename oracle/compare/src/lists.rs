@@ -85,7 +85,8 @@ pub fn lent(palette: &Palette) -> Result<PaletteView<'_>, Refusal> {
         map: &palette.map,
         flags: &palette.flags,
         // Neither function looks at the estimate.
-        bits: 0.0,
+        head: 0.0,
+        map_bits: 0.0,
     })
 }
 

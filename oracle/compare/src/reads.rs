@@ -7,6 +7,7 @@ use crate::tally::Tally;
 use palette_compare::clock::Clock;
 use palette_compare::due::{Due, Same};
 use palette_oracle::generate::reads::{damaged_request, read_request, DamagedKinds};
+use palette_oracle::map_searches::Split;
 use palette_oracle::reading::{read, read_words, unlisted, ReadRequest};
 use palette_oracle::{Found, Palette};
 use palette_station::{list_into, read_into, MAX_WORDS};
@@ -55,9 +56,14 @@ fn due(answer: Result<Palette, u32>) -> Due {
         Ok(palette) => (0, Some(palette)),
         Err(number) => (number, None),
     };
-    // There is no estimate in a list.
+    // A list holds nothing of what the search counted.
     let found = palette.map(|palette| Found { palette, bits: 0.0 });
-    Due { number, found }
+    let split = Split::default();
+    Due {
+        number,
+        found,
+        split,
+    }
 }
 
 fn count_damaged(tally: &mut Tally, kinds: &DamagedKinds, number: u32) {

@@ -5,7 +5,7 @@ use crate::drive::{drive, Run};
 use crate::tally::Tally;
 use palette_compare::clock::Clock;
 use palette_compare::due::{Due, Same};
-use palette_oracle::answers::run_original;
+use palette_oracle::answers::{run_original, split_of};
 use palette_oracle::check::search_number;
 use palette_oracle::generate::searches::{
     search_request, SearchDamage, SearchKinds, SearchRequest,
@@ -133,5 +133,11 @@ fn due(request: &SearchRequest, number: u32) -> (Due, Duration) {
     let start = Clock::start();
     let found = run_original(&request.asked(), number);
     let time = start.elapsed();
-    (Due { number, found }, time)
+    let split = split_of(&request.asked(), number);
+    let due = Due {
+        number,
+        found,
+        split,
+    };
+    (due, time)
 }

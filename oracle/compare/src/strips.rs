@@ -17,7 +17,7 @@ const BEHIND: usize = 70;
 
 /// What the answers hold before a call; none of them is due.
 const FIELD: u32 = 0xeeee_eeee;
-const ESTIMATE: f32 = -7.0;
+const FIGURE: f32 = f32::MAX;
 
 /// Strips of 1 to 64 blocks, some of them damaged.
 pub fn compare_any(run: Run) -> Result<bool, String> {
@@ -79,7 +79,8 @@ struct Buffers {
     map: Vec<u8>,
     flags: Vec<u8>,
     fields: [u32; MOST_BLOCKS * FIELDS],
-    estimates: [f32; MOST_BLOCKS],
+    /// Head and map bits of each.
+    splits: [f32; 2 * MOST_BLOCKS],
 }
 
 impl Buffers {
@@ -94,7 +95,7 @@ impl Buffers {
             map: filled(request.map_room),
             flags: filled(request.flag_room),
             fields: [FIELD; MOST_BLOCKS * FIELDS],
-            estimates: [ESTIMATE; MOST_BLOCKS],
+            splits: [FIGURE; 2 * MOST_BLOCKS],
         }
     }
 
@@ -102,15 +103,22 @@ impl Buffers {
     fn due(request: &StripRequest, answer: &StripAnswer) -> Self {
         let mut due = Buffers::new(request);
         answer.write(request, &mut due.map, &mut due.flags);
-        (due.fields, due.estimates) = (answer.fields(), answer.estimates());
+        (due.fields, due.splits) = (answer.fields(), answer.splits());
         due
+    }
+
+    /// What our own `palette_estimate` makes of head and map bits.
+    fn estimates(&self) -> Vec<f32> {
+        // SAFETY: it takes and gives numbers alone.
+        let estimate = |split: &[f32]| unsafe { palette_estimate(split[0], split[1]) };
+        self.splits.chunks_exact(2).map(estimate).collect()
     }
 
     fn same(&self, due: &Buffers) -> bool {
         self.map == due.map
             && self.flags == due.flags
             && self.fields == due.fields
-            && same_floats(&self.estimates, &due.estimates)
+            && same_floats(&self.splits, &due.splits)
     }
 }
 
@@ -134,7 +142,11 @@ fn same_strip(
     let mut same = vec![
         ("number", number == answer.number),
         ("answers", ours.fields == due.fields),
-        ("estimates", same_floats(&ours.estimates, &due.estimates)),
+        ("head and map bits", same_floats(&ours.splits, &due.splits)),
+        (
+            "estimates",
+            same_floats(&ours.estimates(), &answer.estimates()),
+        ),
         ("map's buffer", ours.map == due.map),
         ("flags' buffer", ours.flags == due.flags),
         ("what was lent", same_request(&lent, request)),
@@ -168,7 +180,7 @@ extern "C" {
         flags: *mut u8,
         flag_room: usize,
         answers: *mut [u32; MOST_BLOCKS * FIELDS],
-        bits: *mut [f32; MOST_BLOCKS],
+        bits: *mut [f32; 2 * MOST_BLOCKS],
     ) -> u32;
 
     fn palette_search(
@@ -185,8 +197,10 @@ extern "C" {
         flags: *mut u8,
         flag_room: usize,
         found: *mut [u32; 10],
-        bits: *mut f32,
+        bits: *mut [f32; 2],
     ) -> u32;
+
+    fn palette_estimate(head: f32, map: f32) -> f32;
 }
 
 fn call_strip(request: &StripRequest, buffers: &mut Buffers) -> (u32, Duration) {
@@ -209,7 +223,7 @@ fn call_strip(request: &StripRequest, buffers: &mut Buffers) -> (u32, Duration) 
             flags.as_mut_ptr(),
             flags.len(),
             &mut buffers.fields,
-            &mut buffers.estimates,
+            &mut buffers.splits,
         )
     };
     (number, start.elapsed())
@@ -218,7 +232,8 @@ fn call_strip(request: &StripRequest, buffers: &mut Buffers) -> (u32, Duration) 
 /// What our own `palette_search` answers and writes for each block, and its time for all of them.
 fn call_separately(request: &StripRequest) -> (Buffers, Duration) {
     let mut buffers = Buffers::new(request);
-    (buffers.fields, buffers.estimates) = ([0; MOST_BLOCKS * FIELDS], [0.0; MOST_BLOCKS]);
+    buffers.fields = [0; MOST_BLOCKS * FIELDS];
+    buffers.splits = [0.0; 2 * MOST_BLOCKS];
     let parts = parts(request);
     let start = Clock::start();
     for (block, part) in parts.iter().enumerate() {
@@ -233,6 +248,8 @@ fn call_block(request: &StripRequest, block: usize, part: &Part, buffers: &mut B
     let samples = &request.samples[part.cells..][..cells];
     let map = &mut buffers.map[part.cells..][..cells];
     let flags = &mut buffers.flags[part.flags..][..part.w.max(part.h)];
+    let split = &mut buffers.splits[2 * block..][..2];
+    let split: &mut [f32; 2] = split.try_into().expect("two places");
     let mut found = [FIELD; 10];
     // SAFETY: each pointer and length is of one slice, and the four mutable ones are apart.
     let number = unsafe {
@@ -250,7 +267,7 @@ fn call_block(request: &StripRequest, block: usize, part: &Part, buffers: &mut B
             flags.as_mut_ptr(),
             flags.len(),
             &mut found,
-            &mut buffers.estimates[block],
+            split,
         )
     };
     let fields = &mut buffers.fields[FIELDS * block..][..FIELDS];

@@ -19,9 +19,9 @@ fn asked(costs: &[f32]) -> Asked<'_> {
 }
 
 /// The number, with all that is returned, from buffers and fields filled beforehand.
-fn searched(costs: &[f32]) -> (u32, [u8; 16], [u8; 16], [u32; 10], f32) {
+fn searched(costs: &[f32]) -> (u32, [u8; 16], [u8; 16], [u32; 10], [f32; 2]) {
     let (mut map, mut flags) = ([0xee; 16], [0xee; 16]);
-    let (mut found, mut bits) = ([77; 10], 7.5);
+    let (mut found, mut bits) = ([77; 10], [7.5; 2]);
     let number = super::search(asked(costs), &mut map, &mut flags, &mut found, &mut bits);
     (number, map, flags, found, bits)
 }
@@ -33,7 +33,10 @@ fn the_worked_block() {
     assert_eq!(map, [0, 0, 0, 0, 0, 0, 0, 0, 1, 1, 1, 1, 1, 1, 1, 1]);
     assert_eq!((flags[0], &flags[1..]), (0, &[0xee; 15][..]));
     assert_eq!(found, [2, 10, 20, 0, 0, 0, 0, 0, 0, 0]);
-    assert_eq!(bits, 51.0);
+    assert_eq!(
+        (bits, super::estimate(bits[0], bits[1])),
+        ([16.0, 1.0], 51.0)
+    );
 }
 
 #[test]
@@ -42,7 +45,7 @@ fn costs_of_another_length_are_5() {
         let (number, map, flags, found, bits) = searched(&vec![0.0; length]);
         assert_eq!(number, 5, "{length} costs");
         assert_eq!((map, flags), ([0xee; 16], [0xee; 16]));
-        assert_eq!((found, bits.to_bits()), ([0; 10], 0));
+        assert_eq!((found, bits.map(f32::to_bits)), ([0; 10], [0; 2]));
     }
 }
 
@@ -73,12 +76,19 @@ struct Strip {
     map: [u8; 49],
     flags: [u8; 49],
     answers: [[u32; 11]; 64],
-    bits: [f32; 64],
+    bits: [[f32; 2]; 64],
+}
+
+impl Strip {
+    /// The bits of head and map bits, so that -0.0 is no 0.0.
+    fn counted(&self) -> [[u32; 2]; 64] {
+        self.bits.map(|bits| bits.map(f32::to_bits))
+    }
 }
 
 fn strip(asked: AskedStrip<'_>, cells: usize) -> Strip {
     let (mut map, mut flags) = ([0xee; 49], [0xee; 49]);
-    let (mut answers, mut bits) = ([[77; 11]; 64], [7.5; 64]);
+    let (mut answers, mut bits) = ([[77; 11]; 64], [[7.5; 2]; 64]);
     let map_room = &mut map[..cells];
     let number = super::strip(asked, map_room, &mut flags, &mut answers, &mut bits);
     Strip {
@@ -97,9 +107,10 @@ fn the_worked_block_twice_in_a_strip() {
     let found = [0, 2, 10, 20, 0, 0, 0, 0, 0, 0, 0];
     let one_level = [9, 0, 0, 0, 0, 0, 0, 0, 0, 0, 0];
     assert_eq!(strip.answers[..3], [found, one_level, found]);
-    assert_eq!(strip.bits[..3], [51.0, 0.0, 51.0]);
+    assert_eq!(strip.bits[..3], [[16.0, 1.0], [0.0; 2], [16.0, 1.0]]);
     assert_eq!(strip.answers[3..], [[0; 11]; 61]);
-    assert_eq!(strip.bits.map(f32::to_bits)[3..], [0; 61]);
+    assert_eq!(strip.counted()[1], [0; 2]);
+    assert_eq!(strip.counted()[3..], [[0; 2]; 61]);
     let map = [0, 0, 0, 0, 0, 0, 0, 0, 1, 1, 1, 1, 1, 1, 1, 1];
     assert_eq!((&strip.map[..16], &strip.map[32..48]), (&map[..], &map[..]));
     assert_eq!((&strip.map[16..32], strip.map[48]), (&[0xee; 16][..], 0xee));
@@ -116,7 +127,7 @@ fn costs_of_another_length_are_each_blocks_own_5() {
         let refused = [5, 0, 0, 0, 0, 0, 0, 0, 0, 0, 0];
         assert_eq!(strip.answers[..3], [refused; 3]);
         assert_eq!(strip.answers[3..], [[0; 11]; 61]);
-        assert_eq!(strip.bits.map(f32::to_bits), [0; 64]);
+        assert_eq!(strip.counted(), [[0; 2]; 64]);
         assert_eq!((strip.map, strip.flags), ([0xee; 49], [0xee; 49]));
     }
 }
@@ -195,7 +206,7 @@ fn a_refused_strip_is_all_zero() {
             "number {due}"
         );
         assert_eq!(strip.answers, [[0; 11]; 64], "number {due}");
-        assert_eq!(strip.bits.map(f32::to_bits), [0; 64], "number {due}");
+        assert_eq!(strip.counted(), [[0; 2]; 64], "number {due}");
     }
 }
 

@@ -24,6 +24,8 @@ use std::thread;
 /// assert_eq!(searched.form.blocks().count(), 1);
 /// // Two colours of 8 bits in literals, and the first index.
 /// assert!(searched.raw_width > 16);
+/// // Of the symbols' costs too, which raw width does not count.
+/// assert!(searched.head > 16.0 && searched.map_bits > 1.0);
 /// assert_eq!(searched.report.blocks(), 1);
 /// # Ok::<(), Box<dyn std::error::Error>>(())
 /// ```
@@ -33,6 +35,10 @@ pub struct Searched {
     pub form: Form,
     /// The raw widths of all lists together.
     pub raw_width: u64,
+    /// What the search counted for the colours of all palettes together, in bits.
+    pub head: f64,
+    /// What it counted for all their maps.
+    pub map_bits: f64,
     /// The blocks with a list, in the form's order: a block without a palette has no line.
     pub report: Report,
 }
@@ -73,6 +79,8 @@ impl Error for Failure {}
 struct Found {
     parts: Parts,
     raw_width: u64,
+    /// Head and map bits of each palette.
+    bits: Vec<[f32; 2]>,
     report: Report,
 }
 
@@ -80,6 +88,7 @@ impl Found {
     fn append(&mut self, more: Found) {
         self.parts.append(more.parts);
         self.raw_width += more.raw_width;
+        self.bits.extend(more.bits);
         self.report.append(more.report);
     }
 }
@@ -121,9 +130,13 @@ impl Sheet {
             settings: settings.clone(),
             parts: all.parts,
         };
+        // From the first block to the last, since a sum of floats depends on its order.
+        let sum = |which: usize| all.bits.iter().map(|bits| f64::from(bits[which])).sum();
         Ok(Searched {
             form,
             raw_width: all.raw_width,
+            head: sum(0),
+            map_bits: sum(1),
             report: all.report,
         })
     }
@@ -247,6 +260,7 @@ impl Found {
         let listing = list_into(palette, &[], words)?;
         self.parts.push_list(listing.words);
         self.raw_width += u64::from(listing.raw_width);
+        self.bits.push([palette.head, palette.map_bits]);
         self.report.push(Ok(Listed::of(palette, &listing)));
         Ok(())
     }

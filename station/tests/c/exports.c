@@ -87,12 +87,14 @@ static void costs(void) {
 /*
  * Document 01's block with the default costs, then with those of the even rows. Lambda 0 leaves its
  * map as it is; the estimate is 51 with costs of 0, and 3 times what it takes of the costs more:
- * mode palette less none, size 2, the flag, rank 0 at 14 cells and rank 1 at one.
+ * mode palette less none, size 2, the flag, rank 0 at 14 cells and rank 1 at one. The first two
+ * are the head's, 16 with costs of 0.
  */
 static void search_with_made_costs(void) {
+    const float heads[2] = {16 + 3.4375f + 1.875f, 16 - 2.8125f + 3};
     const float due[2] = {51 + 3 * (3.4375f + 1.875f + 1.3125f + 14 * 0.1875f + 2.8125f),
                           51 + 3 * (-2.8125f + 3 + 3 + 14 * 3 + 0.1875f)};
-    float samples[16], made[PALETTE_COSTS], bits = -1;
+    float samples[16], made[PALETTE_COSTS], bits[2];
     uint16_t rows[PALETTE_ADAPTED];
     uint8_t map[16], flags[16];
     uint32_t found[10];
@@ -101,27 +103,29 @@ static void search_with_made_costs(void) {
     for (int lent = 0; lent < 2; lent++) {
         CHECK(palette_costs(rows, lent ? PALETTE_ADAPTED : 0, made) == PALETTE_ACCEPTED);
         CHECK(palette_search(samples, 16, 16, 1, 8, 0, made, PALETTE_COSTS, map, 16, flags, 16,
-                             found, &bits) == PALETTE_ACCEPTED);
-        CHECK(bits == due[lent]);
+                             found, bits) == PALETTE_ACCEPTED);
+        CHECK(bits[0] == heads[lent] && palette_estimate(bits[0], bits[1]) == due[lent]);
     }
 }
 
 /* Document 01's block, 16 by 1, with room for a place more. */
 static void search(void) {
-    float samples[16], costs[PALETTE_COSTS] = {0}, bits = -1;
+    float samples[16], costs[PALETTE_COSTS] = {0}, bits[3] = {-1, -1, -1};
     uint8_t map[17], flags[17];
     uint32_t found[10];
     const uint32_t due[10] = {2, 10, 20, 0, 0, 0, 0, 0, 0, 0};
     for (int i = 0; i < 16; i++) samples[i] = i < 8 ? 10 : 20;
     fill(map, 17), fill(flags, 17), fill(found, sizeof found);
-    CHECK(palette_search(samples, 16, 16, 1, 8, 0, costs, 300, map, 16, flags, 16, found, &bits) ==
+    CHECK(palette_search(samples, 16, 16, 1, 8, 0, costs, 300, map, 16, flags, 16, found, bits) ==
           PALETTE_COST_TABLE);
-    CHECK(palette_search(samples, 16, 16, 1, 8, 0, costs, 301, map, 15, flags, 16, found, &bits) ==
+    CHECK(palette_search(samples, 16, 16, 1, 8, 0, costs, 301, map, 15, flags, 16, found, bits) ==
           PALETTE_ROOM);
-    CHECK(filled(map, 17) && filled(flags, 17) && zeros(found, sizeof found) && bits == 0);
-    CHECK(palette_search(samples, 16, 16, 1, 8, 0, costs, 301, map, 16, flags, 16, found, &bits) ==
+    CHECK(filled(map, 17) && filled(flags, 17) && zeros(found, sizeof found));
+    CHECK(zeros(bits, 2 * sizeof *bits) && bits[2] == -1);
+    CHECK(palette_search(samples, 16, 16, 1, 8, 0, costs, 301, map, 16, flags, 16, found, bits) ==
           PALETTE_ACCEPTED);
-    CHECK(memcmp(found, due, sizeof due) == 0 && bits == 51);
+    CHECK(memcmp(found, due, sizeof due) == 0 && bits[0] == 16 && bits[1] == 1 && bits[2] == -1);
+    CHECK(palette_estimate(16, 1) == 51 && palette_estimate_default_env(16, 1) == 51);
     CHECK(map[0] == 0 && map[7] == 0 && map[8] == 1 && map[15] == 1 && map[16] == 0xee);
     CHECK(flags[0] == 0 && filled(flags + 1, 16));
 }
@@ -134,8 +138,9 @@ static void strip(void) {
         {PALETTE_ONE_LEVEL, 0, 0, 0, 0, 0, 0, 0, 0, 0, 0},
         {0, 2, 10, 20, 0, 0, 0, 0, 0, 0, 0},
     };
+    static const float counted[6] = {16, 1, 0, 0, 16, 1};
     static const uint8_t last[16] = {1, 2, 2, 2, 2, 2, 2, 2, 1, 2, 2, 2, 2, 2, 2, 2};
-    float samples[64], costs[PALETTE_COSTS] = {0}, bits[PALETTE_MAX_STRIP];
+    float samples[64], costs[PALETTE_COSTS] = {0}, bits[2 * PALETTE_MAX_STRIP];
     uint8_t map[65], flags[49];
     uint32_t answers[11 * PALETTE_MAX_STRIP];
     for (int i = 0; i < 64; i++) samples[i] = i >= 16 && i < 48 ? 7 : i % 16 < 8 ? 10 : 20;
@@ -151,8 +156,8 @@ static void strip(void) {
     CHECK(filled(map, 65) && filled(flags, 49));
     CHECK(palette_strip(sides, 6, samples, 64, 8, 0, costs, 301, map, 64, flags, 48, answers,
                         bits) == PALETTE_ACCEPTED);
-    CHECK(memcmp(answers, due, sizeof due) == 0 && bits[0] == 51 && bits[1] == 0 && bits[2] == 51);
-    CHECK(zeros(answers + 33, sizeof answers - sizeof due) && zeros(bits + 3, 61 * sizeof *bits));
+    CHECK(memcmp(answers, due, sizeof due) == 0 && memcmp(bits, counted, sizeof counted) == 0);
+    CHECK(zeros(answers + 33, sizeof answers - sizeof due) && zeros(bits + 6, 122 * sizeof *bits));
     CHECK(map[0] == 0 && map[7] == 0 && map[8] == 1 && map[15] == 1 && filled(map + 16, 32));
     CHECK(map[48] == 0 && map[55] == 0 && map[56] == 1 && map[63] == 1 && map[64] == 0xee);
     CHECK(flags[0] == 0 && filled(flags + 1, 31) && memcmp(flags + 32, last, 16) == 0);

@@ -42,7 +42,7 @@ typedef struct {
     float samples[32], lambda, costs[PALETTE_COSTS];
     uint8_t map[32], flags[16];
     uint32_t found[10];
-    float bits;
+    float bits[2];
 } searched;
 
 /* The smallest block seen that has other colours where subnormal numbers are taken for 0. */
@@ -58,36 +58,39 @@ static searched smallest(void) {
 
 static uint32_t number(search_function *search, searched *s) {
     return search(s->samples, 16 * s->height, 16, s->height, 8, s->lambda, s->costs,
-                  PALETTE_COSTS, s->map, 32, s->flags, 16, s->found, &s->bits);
+                  PALETTE_COSTS, s->map, 32, s->flags, 16, s->found, s->bits);
 }
 
 /* The block as the second of a strip, behind one of a single sample. */
 static uint32_t in_strip(const float *samples, size_t count, size_t width, size_t height,
                          uint32_t bd, float lambda, const float *costs, size_t entries,
                          uint8_t *map, size_t map_room, uint8_t *flags, size_t flag_room,
-                         uint32_t found[10], float *bits) {
+                         uint32_t found[10], float bits[2]) {
     const size_t sides[4] = {1, 1, width, height};
-    float both[1 + 32], estimates[PALETTE_MAX_STRIP];
+    float both[1 + 32], pairs[2 * PALETTE_MAX_STRIP];
     uint8_t maps[1 + 32], lines[1 + 16];
     uint32_t answers[11 * PALETTE_MAX_STRIP];
     memset(both, 0, sizeof both), memset(maps, 0, sizeof maps), memset(lines, 0, sizeof lines);
     memcpy(both + 1, samples, count * sizeof *samples);
     CHECK(palette_strip_default_env(sides, 4, both, 1 + count, bd, lambda, costs, entries, maps,
-                                    1 + map_room, lines, 1 + flag_room, answers, estimates) ==
+                                    1 + map_room, lines, 1 + flag_room, answers, pairs) ==
           PALETTE_ACCEPTED);
     memcpy(map, maps + 1, map_room), memcpy(flags, lines + 1, flag_room);
-    memcpy(found, answers + 12, 10 * sizeof *found), memcpy(bits, estimates + 1, sizeof *bits);
+    memcpy(found, answers + 12, 10 * sizeof *found), memcpy(bits, pairs + 2, 2 * sizeof *bits);
     return answers[11];
 }
 
-/* Three colours, and an estimate of 69. */
+/* Three colours: 21 bits for them and 2 for the map, an estimate of 69. */
 static bool right(search_function *search) {
     static const uint32_t due[10] = {3, 16, 18, 19, 0, 0, 0, 0, 0, 0};
-    const uint32_t estimate = 0x428a0000;
+    static const uint32_t counted[3] = {0x41a80000, 0x40000000, 0x428a0000};
     searched block = smallest();
-    return number(search, &block) == PALETTE_ACCEPTED &&
-           memcmp(block.found, due, sizeof due) == 0 &&
-           memcmp(&block.bits, &estimate, sizeof estimate) == 0;
+    float figures[3];
+    uint32_t answer = number(search, &block);
+    memcpy(figures, block.bits, sizeof block.bits);
+    figures[2] = palette_estimate_default_env(figures[0], figures[1]);
+    return answer == PALETTE_ACCEPTED && memcmp(block.found, due, sizeof due) == 0 &&
+           memcmp(figures, counted, sizeof counted) == 0;
 }
 
 static void put(float *place, uint32_t bits) { memcpy(place, &bits, sizeof bits); }

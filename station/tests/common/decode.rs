@@ -90,7 +90,8 @@ pub fn decode(
         transposed,
         map,
         flags,
-        bits: 0.0,
+        head: 0.0,
+        map_bits: 0.0,
     };
     match list(&palette, cache) {
         Ok(listing) if listing.words == words => Ok(palette),

@@ -6,7 +6,7 @@ pub mod kept;
 pub mod page;
 pub mod rows;
 
-use palette_station::{Block, Blocks, Colors, Palette};
+use palette_station::{Block, Blocks, Colors, Palette, Refusal};
 use std::env;
 use std::io::Write;
 use std::path::{Path, PathBuf};
@@ -47,14 +47,31 @@ pub fn counting(width: usize, height: usize, n: usize) -> Palette {
         transposed: false,
         map: (0..width * height).map(|cell| (cell % n) as u8).collect(),
         flags: vec![0; height],
-        bits: 0.0,
+        head: 0.0,
+        map_bits: 0.0,
     }
 }
 
-/// All of a palette but the estimate, of which its list holds nothing.
-pub fn without_estimate(palette: &Palette) -> Palette {
+/// The bits of what the search counted, head and map bits.
+pub fn counted(palette: &Palette) -> [u32; 2] {
+    [palette.head, palette.map_bits].map(f32::to_bits)
+}
+
+/// An answer whose head and map bits are compared by their bits too.
+pub type Bitwise = Result<(Palette, [u32; 2]), Refusal>;
+
+pub fn bitwise(answer: Result<Palette, Refusal>) -> Bitwise {
+    answer.map(|palette| {
+        let counted = counted(&palette);
+        (palette, counted)
+    })
+}
+
+/// All of a palette but what the search counted, of which its list holds nothing.
+pub fn uncounted(palette: &Palette) -> Palette {
     Palette {
-        bits: 0.0,
+        head: 0.0,
+        map_bits: 0.0,
         ..palette.clone()
     }
 }

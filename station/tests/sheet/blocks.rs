@@ -29,6 +29,8 @@ fn the_specifications_block_is_listed_to_the_letter() {
     let summary = printed(&folder, words);
     assert_eq!(value(&summary, "calls"), "22");
     assert!(value(&summary, "raw width").starts_with("17 bits "));
+    let estimated = value(&summary, "estimated bits");
+    assert_eq!(estimated, "16 for colours, 1 for maps");
 }
 
 #[test]

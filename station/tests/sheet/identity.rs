@@ -1,7 +1,7 @@
 //! Two different sheets never have one form.
 
 use crate::command::{bars, folder, form, pgm};
-use crate::common::{cases, without_estimate, Random};
+use crate::common::{cases, uncounted, Random};
 use crate::form::{block, cut, text};
 use palette_station::sheet::{Settings, Sheet};
 use palette_station::{search, Palette, Refusal};
@@ -83,7 +83,7 @@ fn palettes(sheet: &Sheet, settings: &Settings) -> Vec<Result<Palette, Refusal>>
 
 fn same(a: &Result<Palette, Refusal>, b: &Result<Palette, Refusal>) -> bool {
     match (a, b) {
-        (Ok(a), Ok(b)) => without_estimate(a) == without_estimate(b),
+        (Ok(a), Ok(b)) => uncounted(a) == uncounted(b),
         _ => a == b,
     }
 }

@@ -28,7 +28,7 @@ fn summary_of_a_small_sheet() {
         .unwrap();
     assert!(all.parse::<f64>().unwrap() >= search.parse().unwrap());
     assert!(value(&summary, "samples a second").parse::<f64>().unwrap() > 0.0);
-    assert_eq!(summary.lines().count(), 13, "{summary}");
+    assert_eq!(summary.lines().count(), 14, "{summary}");
     assert_eq!(names(&folder), ["a.pgm"]);
 }
 

@@ -28,14 +28,17 @@ lines-of-requires c κs = search needs
 print-answer-requires : tie.Need-print-answer-requires
 print-answer-requires c κs = search needs
 
-bits-of-requires : tie.Need-bits-of-requires
-bits-of-requires c κs = search needs
+estimate-requires : tie.Need-estimate-requires
+estimate-requires c κs = search needs
 
-cast-print-number : tie.Need-cast-print-number
-cast-print-number c = search needs
+print-float-requires : tie.Need-print-float-requires
+print-float-requires c κs = search needs
 
-print-number-requires : tie.Need-print-number-requires
-print-number-requires c κs = search needs
+print-float-requires-2 : tie.Need-print-float-requires-2
+print-float-requires-2 c κs = search needs
+
+print-float-requires-3 : tie.Need-print-float-requires-3
+print-float-requires-3 c κs = search needs
 
 written-requires : tie.Need-written-requires
 written-requires c κs = search needs
@@ -69,9 +72,10 @@ replay-search-spec =
     search-requires
     lines-of-requires
     print-answer-requires
-    bits-of-requires
-    cast-print-number
-    print-number-requires
+    estimate-requires
+    print-float-requires
+    print-float-requires-2
+    print-float-requires-3
     written-requires
     print-bytes-requires
     written-requires-2

@@ -29,7 +29,9 @@ over-zero = refl
 
 -- the code's best before there is one
 abbrev none-with : Float → Best
-none-with total = record { total = total; n = 0; colors = replicate 8 0; transposed = false; bits = ofBits binary32 0 }
+none-with total =
+    let zero = ofBits binary32 0 in
+    record { total = total; n = 0; colors = replicate 8 0; transposed = false; head = zero; «map_bits» = zero }
 
 abbrev start : tie.At-loop Inv-loop μ-loop → tie.Start Inv-loop μ-loop
 start l = l .before .before .before .before .before .before .before .before .before .before

@@ -1,4 +1,4 @@
-use mathlib.Core.Path.{_≡_, _∙_}
+use mathlib.Core.Path.{_≡_, refl, _∙_}
 use mathlib.Core.List.{List}
 use Prim.Native.Nat.{ℕ, _*_, _≤_}
 use native.Mathlib.Nat.{lt-of-le-of-lt, min-le-left}
@@ -8,7 +8,7 @@ use lib.ListN.{length}
 use Rattle.scan.proofs.Scans.{lines-most}
 use Rattle.search.proofs.Colors.{levelsIn, is-histogram}
 use Rattle.search.proofs.Passed.{ready-of, few-cells, few-lines}
-use Rattle.search.proofs.Aside.{take-fits, passed-aside, known, written-found, as-palette}
+use Rattle.search.proofs.Aside.{take-fits, passed-aside, known, written-found}
 use borrow.Author.Needs.{needs}
 use Rattle.search.proofs.search_in.Statement.{statement}
 use Rattle.search.proofs.search_in.Tie as tie
@@ -99,15 +99,15 @@ same-length-4 c = search needs
 
 returns : tie.Need-returns
 returns c =
-    let l = c .before .before .before .before .before .before in
+    let l = c .before .before .before .before .before in
     let t = best l in
     let pre = start t .pre in
     let levels = pre .1 in
-    let cells-copied = c .before .before .before .before .before .before .before .before .before .before .copy-bytes .ensures in
-    let lines-copied = c .before .before .before .before .copy-bytes2 .ensures in
+    let cells-copied = c .before .before .before .before .before .before .before .before .before .copy-bytes .ensures in
+    let lines-copied = c .before .before .before .copy-bytes2 .ensures in
     written-found (ready-of (pre .0 .0)) (levels .0) (levels .1) (levels .2) (t .best-of .ensures) _ _ _ _ _ cells-copied lines-copied
     (l .lines-of .ensures) (take-fits _ _ _ (cells-fit t .0) (cells-fit t .1))
-    (take-fits _ _ _ (lines-fit l .0) (lines-fit l .1)) _ (as-palette (t .best-of .result))
+    (take-fits _ _ _ (lines-fit l .0) (lines-fit l .1)) _ refl
 
 pub search-in-spec : {M : Type 1} → statement M
 search-in-spec =

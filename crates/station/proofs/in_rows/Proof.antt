@@ -6,18 +6,19 @@ use borrow.Author.Needs.{needs}
 use Rattle.lists.proofs.Each.{any}
 use Rattle.accept.specs.declared.Palette.{Palette}
 use Rattle.accept.specs.Answer.{refusedBy}
+use Rattle.station.specs.Strip.{rowAt}
 use Rattle.station.proofs.Rows.{ten-places, Begun, begins, turn, ends}
 use Rattle.station.proofs.in_rows.Statement.{statement}
 use Rattle.station.proofs.in_rows.Tie as tie
 
 abbrev Inv-loop : tie.InvT-loop
-Inv-loop answers rows₀ i₀ rows i = Begun answers rows i
+Inv-loop answers rows₀ i₀ rows i = Begun 11 (rowAt answers) rows i
 
 abbrev μ-loop : tie.MeasureT-loop
 μ-loop answers rows₀ i₀ rows i = 64 - i
 
 loop-holds : tie.Need-loop-holds Inv-loop μ-loop
-loop-holds c = begins _ _ refl
+loop-holds c = begins 11 _ _ refl
 
 mul-p : tie.Need-mul-p Inv-loop μ-loop
 mul-p c = search needs
@@ -86,7 +87,7 @@ loop-again c =
     (r .result) _ (r .ensures) (search needs) (c .before .copy-words .ensures)
 
 returns : tie.Need-returns Inv-loop μ-loop
-returns c = let l = c .before .loop in ends _ (l .rows) (l .i) (l .inv) (c .loop-test .left)
+returns c = let l = c .before .loop in ends 11 _ (l .rows) (l .i) (l .inv) (c .loop-test .left)
 
 pub in-rows-spec : {M : Type 1} → statement M
 in-rows-spec =

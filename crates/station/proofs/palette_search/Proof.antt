@@ -1,7 +1,7 @@
 use mathlib.Core.Path.{ap, _∙_}
 use Rattle.accept.specs.declared.Palette.{Palette}
 use Rattle.search.proofs.Answer.{few-colors}
-use Rattle.station.specs.Searched.{fieldsOf}
+use Rattle.station.specs.Searched.{fieldsOf, bitsOf}
 use borrow.Author.Needs.{needs}
 use Rattle.station.proofs.palette_search.Statement.{statement}
 use Rattle.station.proofs.palette_search.Tie as tie
@@ -20,11 +20,11 @@ same-length-2 c = search needs
 
 returns : tie.Need-returns
 returns c =
-    let a = c .before .before .before .before .before .before .search .ensures in
+    let a = c .before .before .before .before .before .before .before .search .ensures in
     record {
       number = ap (λ (p : Palette). p .number) (a .answer);
-      fields = c .in-fields .ensures ∙ ap (λ (p : Palette). fieldsOf (p .n) (p .colors) (p .transposed)) (a .answer);
-      estimate = ap (λ (p : Palette). p .bits) (a .answer);
+      fields = c .before .in-fields .ensures ∙ ap (λ (p : Palette). fieldsOf (p .n) (p .colors) (p .transposed)) (a .answer);
+      counted = ap bitsOf (a .answer);
       cells = a .cells;
       signs = a .signs;
     }

@@ -10,8 +10,8 @@ in-rows-requires : tie.Need-in-rows-requires
 in-rows-requires c κs =
     answers-few _ _ _ _ _ _ _ _ _ _ _ (c .before .before .before .before .before .search-strip .ensures .searched)
 
-estimates-of-requires : tie.Need-estimates-of-requires
-estimates-of-requires c κs = search needs
+in-pairs-requires : tie.Need-in-pairs-requires
+in-pairs-requires c κs = search needs
 
 same-length : tie.Need-same-length
 same-length c = search needs
@@ -26,9 +26,9 @@ returns c =
       answers = strip .result .answers;
       strips = strip .ensures;
       fields = c .before .in-rows .ensures;
-      estimates = c .estimates-of .ensures;
+      counted = c .in-pairs .ensures;
     }
 
 pub palette-strip-spec : {M : Type 1} → statement M
 palette-strip-spec =
-    tie.close (tie.spec search-strip-requires in-rows-requires estimates-of-requires same-length same-length-2 returns)
+    tie.close (tie.spec search-strip-requires in-rows-requires in-pairs-requires same-length same-length-2 returns)

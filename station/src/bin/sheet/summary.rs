@@ -37,6 +37,7 @@ impl Run<'_> {
         write_settings(form, output)?;
         tally.write(form.settings().side, output)?;
         line(output, "raw width", raw_width(self.searched.raw_width))?;
+        line(output, "estimated bits", estimated(self.searched))?;
         if self.reported && self.searched.report.blocks() > MAX_BLOCKS {
             line(output, "report", cut_off(&self.searched.report))?;
         }
@@ -119,6 +120,12 @@ fn levels(levels: Option<Levels>) -> String {
 
 fn raw_width(bits: u64) -> String {
     format!("{bits} bits that the coder writes as they are")
+}
+
+/// Without the factor 3 of an estimate.
+fn estimated(searched: &Searched) -> String {
+    let (head, map_bits) = (searched.head, searched.map_bits);
+    format!("{head:.0} for colours, {map_bits:.0} for maps")
 }
 
 /// For a page that does not have all blocks.
