@@ -4,7 +4,7 @@ use mathlib.Core.Bool.{Bool, true, false}
 use mathlib.Core.List.{List, [], _∷_, _++_, append-assoc}
 use Prim.Native.Nat.{ℕ, _+_, _-_, _*_, _≤_, _<_}
 use native.Mathlib.Nat.{le-of-eq}
-use native.Mathlib.Numerals.{add-one}
+use native.Mathlib.Numerals.{add-one, unary-clauses}
 use native.Mathlib.Omega.{arith}
 use lib.Dec.{leb}
 use borrow.Author.Tests.{leb-true, leb-false}
@@ -33,7 +33,7 @@ module _ {A : Type 0} (k : ℕ) (told : ℕ → List A) where
 
   pub begins : (out : List A) → length out ≡ k * 64 → Begun out 0
   unfolding upTo
-  begins out e = record { most = omega arith; count = e; front = refl }
+  begins out e = record { most = omega arith; count = e; front = simp unary-clauses refl }
 
   pub ends : (out : List A) (i : ℕ) → Begun out i → 64 ≤ i → out ≡ upTo told 64
   ends out i b h =

@@ -1,7 +1,7 @@
 use mathlib.Core.Path.{refl}
 use Prim.Native.Nat.{_<_, _-_}
 use native.Mathlib.Omega.{arith}
-use lib.ListN.{length, length-set}
+use lib.ListN.{length}
 use borrow.Author.Needs.{needs}
 use Rattle.lists.proofs.Each.{any}
 use Rattle.accept.specs.Answer.{refusedBy}
@@ -32,8 +32,16 @@ mul-bits : tie.Need-mul-bits Inv-loop μ-loop
 mul-bits c = search needs
 
 array-write-bits : tie.Need-array-write-bits Inv-loop μ-loop
-array-write-bits c =
-    omega (arith, c .before .before .loop-test .taken, c .before .before .before .loop .inv .count)
+array-write-bits c = omega (arith, c .before .loop-test .taken)
+
+add-bits : tie.Need-add-bits Inv-loop μ-loop
+add-bits c = omega (arith, c .before .loop-test .taken)
+
+mul-bits-2 : tie.Need-mul-bits-2 Inv-loop μ-loop
+mul-bits-2 c = search needs
+
+array-write-bits-2 : tie.Need-array-write-bits-2 Inv-loop μ-loop
+array-write-bits-2 c = omega (arith, c .before .loop-test .taken)
 
 add-i : tie.Need-add-i Inv-loop μ-loop
 add-i c = search needs
@@ -63,6 +71,9 @@ in-pairs-spec =
     mul-at
     mul-bits
     array-write-bits
+    add-bits
+    mul-bits-2
+    array-write-bits-2
     add-i
     loop-less
     loop-again
