@@ -99,10 +99,10 @@ fn every_export_is_declared_and_nothing_else() {
 
 /// Whatever has a body is `static inline`, so that two files of a program can include the header.
 #[test]
-fn two_functions_are_defined_inline() {
+fn three_functions_are_defined_inline() {
     let (declarations, inlines) = parts();
     assert!(!declarations.replace("extern \"C\" {", "").contains('{'));
-    let of = ["palette_search", "palette_strip"];
+    let of = ["palette_search", "palette_estimate", "palette_strip"];
     assert_eq!(inlines.len(), of.len());
     for (name, inline) in of.into_iter().zip(&inlines) {
         let its_own = format!("{name}_default_env");

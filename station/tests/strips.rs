@@ -5,7 +5,7 @@ mod common;
 use common::{bitwise, block, cases, halves, Bitwise, Drawn, Lined, Random, BYTE};
 use palette_station::{
     list, list_into, search, search_into, search_strip, search_strip_into, Answers, Block, Blocks,
-    Costs, Palette, PaletteView, Refusal, MAX_WORDS,
+    Costs, PaletteView, Refusal, MAX_WORDS,
 };
 
 fn owned(answer: Result<PaletteView, Refusal>) -> Bitwise {

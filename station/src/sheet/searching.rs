@@ -130,13 +130,17 @@ impl Sheet {
             settings: settings.clone(),
             parts: all.parts,
         };
-        // From the first block to the last, since a sum of floats depends on its order.
-        let sum = |which: usize| all.bits.iter().map(|bits| f64::from(bits[which])).sum();
+        // From the first block to the last, since a sum of floats depends on its order; from 0.0, where
+        // that of no blocks by `sum` would be -0.0.
+        let total = |which: usize| {
+            let bits = all.bits.iter().map(|bits| f64::from(bits[which]));
+            bits.fold(0.0, |sum, bits| sum + bits)
+        };
         Ok(Searched {
             form,
             raw_width: all.raw_width,
-            head: sum(0),
-            map_bits: sum(1),
+            head: total(0),
+            map_bits: total(1),
             report: all.report,
         })
     }

@@ -125,7 +125,7 @@ static void search(void) {
     CHECK(palette_search(samples, 16, 16, 1, 8, 0, costs, 301, map, 16, flags, 16, found, bits) ==
           PALETTE_ACCEPTED);
     CHECK(memcmp(found, due, sizeof due) == 0 && bits[0] == 16 && bits[1] == 1 && bits[2] == -1);
-    CHECK(palette_estimate(16, 1) == 51 && palette_estimate_default_env(16, 1) == 51);
+    CHECK(palette_estimate(16, 1) == 51 && palette_estimate(-8, 2) == -18);
     CHECK(map[0] == 0 && map[7] == 0 && map[8] == 1 && map[15] == 1 && map[16] == 0xee);
     CHECK(flags[0] == 0 && filled(flags + 1, 16));
 }

@@ -1,7 +1,7 @@
 //! The form beside another working from its description, and read back.
 
 use crate::common::{cases, listing_program, program_text, Random};
-use palette_station::sheet::{Form, Levels, Part, Settings, Sheet};
+use palette_station::sheet::{Form, Levels, Part, Searched, Settings, Sheet};
 use palette_station::{list, search, Block, Costs, Refusal};
 use std::fmt::Write;
 
@@ -30,7 +30,8 @@ pub fn sheet(random: &mut Random) -> Sheet {
 
 pub fn settings(random: &mut Random, bd: u32) -> Settings {
     let mut table = *Costs::default().as_table();
-    table[random.between(0, 300)] = random.below(33) as f32;
+    // No sixteenth, so that sums are rounded.
+    table[random.between(0, 300)] = random.below(321) as f32 / 10.0;
     Settings {
         side: [1, 7, 16, 20, 32, 64][random.between(0, 5)],
         levels: Levels::new(random.below(64) as u32),
@@ -80,8 +81,17 @@ pub fn cut(sheet: &Sheet, settings: &Settings) -> Vec<Cut> {
     blocks.collect()
 }
 
-/// The form as its description has it, from single searches, and the sum of their raw widths.
-pub fn described(sheet: &Sheet, settings: &Settings) -> (String, u64) {
+/// Raw width, head and map bits. Raw widths are exact in them.
+type Sums = [f64; 3];
+
+/// Of a searched sheet, by their bits.
+pub fn sums_of(searched: &Searched) -> [u64; 3] {
+    let raw_width = searched.raw_width as f64;
+    [raw_width, searched.head, searched.map_bits].map(f64::to_bits)
+}
+
+/// The form as its description has it, from single searches, and their sums, by their bits.
+pub fn described(sheet: &Sheet, settings: &Settings) -> (String, [u64; 3]) {
     let hex = |f: f32| format!("{:08x}", f.to_bits());
     let mut text = format!(
         "palette-sheet 1\nwidth {}\nheight {}\ndepth {}\nside {}\nlevels {}\nlambda {}\ncosts\n",
@@ -96,14 +106,16 @@ pub fn described(sheet: &Sheet, settings: &Settings) -> (String, u64) {
         text += &hex(cost);
         text += if place % 7 == 6 { "\n" } else { " " };
     }
-    let blocks = cut(sheet, settings).into_iter();
-    let raw_widths = blocks.map(|block| describe(&block, sheet.bd(), settings, &mut text));
-    let raw_width = raw_widths.map(u64::from).sum();
-    (text, raw_width)
+    let mut sums: Sums = [0.0; 3];
+    for block in cut(sheet, settings) {
+        let more = describe(&block, sheet.bd(), settings, &mut text);
+        sums = std::array::from_fn(|which| sums[which] + more[which]);
+    }
+    (text, sums.map(f64::to_bits))
 }
 
-/// Adds a block to the text and gives its raw width.
-fn describe(cut: &Cut, bd: u32, settings: &Settings, text: &mut String) -> u32 {
+/// Adds a block to the text and gives what it adds to the sums.
+fn describe(cut: &Cut, bd: u32, settings: &Settings, text: &mut String) -> Sums {
     let found = search(&block(cut, bd), settings.lambda, &settings.costs);
     let refusal = match found {
         Ok(palette) => {
@@ -114,7 +126,8 @@ fn describe(cut: &Cut, bd: u32, settings: &Settings, text: &mut String) -> u32 {
                 let second = u16::from_be_bytes([high, low]);
                 writeln!(text, "{kind:>8}{first:>8}{second:>8}").unwrap();
             }
-            return listing.raw_width;
+            let [head, map_bits] = [palette.head, palette.map_bits].map(f64::from);
+            return [f64::from(listing.raw_width), head, map_bits];
         }
         Err(refusal) => refusal,
     };
@@ -129,7 +142,7 @@ fn describe(cut: &Cut, bd: u32, settings: &Settings, text: &mut String) -> u32 {
         }
     }
     text.push('\n');
-    0
+    [0.0; 3]
 }
 
 pub fn block(cut: &Cut, bd: u32) -> Block<'_> {
@@ -147,10 +160,10 @@ fn the_form_is_what_its_description_says() {
     for place in 0..cases(300) {
         let sheet = sheet(&mut random);
         let settings = settings(&mut random, sheet.bd());
-        let (due, raw_width) = described(&sheet, &settings);
+        let (due, sums) = described(&sheet, &settings);
         assert!(text(&sheet, &settings) == due.into_bytes(), "sheet {place}");
         let searched = sheet.search(&settings, 1, |_, _| {}).unwrap();
-        assert_eq!(searched.raw_width, raw_width, "sheet {place}");
+        assert_eq!(sums_of(&searched), sums, "sheet {place}");
     }
 }
 

@@ -173,7 +173,7 @@ fn only_blocks_with_a_palette_have_a_line() {
     let bits: u64 = raw_width.split(' ').next().unwrap().parse().unwrap();
     let due = page(&[Ok([calls, 256, bits])]);
     assert_eq!(fs::read_to_string(folder.join("r")).unwrap(), due);
-    assert_eq!(summary.lines().count(), 13, "{summary}");
+    assert_eq!(summary.lines().count(), 14, "{summary}");
 }
 
 #[test]

@@ -84,6 +84,8 @@ fn a_blank_sheet_has_no_warning() {
         let summary = printed(&folder, words);
         assert!(value(&summary, "blank").contains(" (100.0 % of all"));
         assert_eq!(value(&summary, "drawn"), "0 (0.0 % of all)");
+        let estimated = value(&summary, "estimated bits");
+        assert_eq!(estimated, "0 for colours, 0 for maps");
         assert!(!summary.contains("warning"), "{summary}");
     }
 }

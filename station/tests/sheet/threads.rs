@@ -1,7 +1,7 @@
 //! A sheet's blocks in strips and shared out to threads: the same as searched one by one.
 
 use crate::common::{cases, Random};
-use crate::form::{described, samples, settings};
+use crate::form::{described, samples, settings, sums_of};
 use palette_station::sheet::{Failure, Settings, Sheet};
 use palette_station::Costs;
 
@@ -19,13 +19,13 @@ fn sheet(random: &mut Random) -> Sheet {
     Sheet::new(width, height, bd, samples(random, width * height, bd)).unwrap()
 }
 
-/// Form and page as they are written, and the raw width.
-fn written(sheet: &Sheet, settings: &Settings, threads: usize) -> (Vec<u8>, Vec<u8>, u64) {
+/// Form and page as they are written, and raw width, head and map bits.
+fn written(sheet: &Sheet, settings: &Settings, threads: usize) -> (Vec<u8>, Vec<u8>, [u64; 3]) {
     let searched = sheet.search(settings, threads, |_, _| {}).unwrap();
     let (mut form, mut page) = (Vec::new(), Vec::new());
     searched.form.write(&mut form).unwrap();
     searched.report.write(&mut page).unwrap();
-    (form, page, searched.raw_width)
+    (form, page, sums_of(&searched))
 }
 
 #[test]
@@ -35,10 +35,10 @@ fn any_number_of_threads_gives_what_single_searches_give() {
         let sheet = sheet(&mut random);
         let mut settings = settings(&mut random, sheet.bd());
         settings.side = [1, 3, 15, 16, 20, 64][random.between(0, 5)];
-        let (form, raw_width) = described(&sheet, &settings);
+        let (form, sums) = described(&sheet, &settings);
         let [one, others @ ..] = THREADS.map(|threads| written(&sheet, &settings, threads));
         assert!(one.0 == form.into_bytes(), "sheet {place}");
-        assert_eq!(one.2, raw_width, "sheet {place}");
+        assert_eq!(one.2, sums, "sheet {place}");
         assert!(others.iter().all(|other| *other == one), "sheet {place}");
     }
 }
