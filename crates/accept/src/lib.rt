@@ -18,9 +18,9 @@ ghost use Rattle.accept.specs.Accepted.{sidesOk, colorsOk, orientOk, lin
 // it, the bits that it counted for colours and map. `search::estimate` makes one figure of the two.
 pub struct Palette {
     pub number: u32,
+    pub transposed: bool,
     pub n: usize,
     pub colors: [u16; 8],
-    pub transposed: bool,
     pub head: f32,
     pub map_bits: f32,
 }
