@@ -55,7 +55,7 @@ pub fn search(
     search::search(samples, width, height, bd, lambda, costs, map, flags)
 }
 
-// The bit estimate of a palette that search made, which is 0 for any other: what the original calls `bits`.
+// The bit estimate of a palette, which the original calls `bits`; 0 where head and map bits are.
 pub fn estimate(p: Palette) -> f32
     ensures { λ r. ⌜ r ≡ estimateOf (p .head) (p .«map_bits») ⌝ }
 {

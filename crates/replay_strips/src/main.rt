@@ -116,8 +116,8 @@ fn hash_answer(before: u64, p: Palette) -> u64
     let n = at_most(p.n, 4294967295) as u32;
     let colors = p.colors;
     let h = hash_colors(hashed(hashed(before, p.number), n), colors);
-    let head = hashed(hashed(h, p.transposed as u32), bits_of(p.head));
-    hashed(head, bits_of(p.map_bits))
+    let so_far = hashed(hashed(h, p.transposed as u32), bits_of(p.head));
+    hashed(so_far, bits_of(p.map_bits))
 }
 
 fn hash_answers(answers: [Palette; 64]) -> u64 {

@@ -28,7 +28,7 @@ pub struct Best {
     pub map_bits: f32,
 }
 
-// The bit estimate: what the original calls `bits`.
+// The bit estimate, which the original calls `bits`.
 pub fn estimate(head: f32, map_bits: f32) -> f32
     ensures { λ r. ⌜ r ≡ estimateOf head «map_bits» ⌝ }
 {
