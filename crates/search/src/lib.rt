@@ -21,9 +21,9 @@ ghost use Rattle.search.specs.Steps.{priceFault, Passed, Sized, Stands, 
 // The best map so far, but for its cells and flags.
 pub struct Best {
     pub total: f32,
-    pub transposed: bool,
     pub n: usize,
     pub colors: [u16; 8],
+    pub transposed: bool,
     pub head: f32,
     pub map_bits: f32,
 }
