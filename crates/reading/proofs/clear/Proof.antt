@@ -1,16 +1,12 @@
-use Prim.Native.Nat.{ℕ, zero, suc, _-_}
+use Prim.Native.Nat.{ℕ, _-_}
 use mathlib.Core.Path.{_≡_, refl, sym, _∙_}
 use native.Mathlib.Omega.{arith}
-use lib.ListN.{length, getD, replicate, length-replicate}
+use lib.ListN.{length, replicate}
 use borrow.Author.Needs.{needs}
+use Rattle.lists.proofs.Zeros.{zero-at, length-zeros}
 use Rattle.lists.proofs.Each.{Filled, starts, more, whole}
 use Rattle.reading.proofs.clear.Statement.{statement}
 use Rattle.reading.proofs.clear.Tie as tie
-
-zero-at : (n k : ℕ) → _≡_ {A = ℕ} 0 (getD (replicate n 0) k 0)
-zero-at zero k = refl
-zero-at (suc n) zero = refl
-zero-at (suc n) (suc k) = zero-at n k
 
 -- the zeros so far
 abbrev Inv-loop : tie.InvT-loop
@@ -19,11 +15,12 @@ Inv-loop bytes₀ i₀ bytes i = Filled 0 (replicate (length bytes₀) 0) bytes 
 abbrev μ-loop : tie.MeasureT-loop
 μ-loop bytes₀ i₀ bytes i = length bytes₀ - i
 
-length-zeros : (n : ℕ) → length {A = ℕ} (replicate n 0) ≡ n
-length-zeros n = length-replicate {A = ℕ} n 0
+-- as many as there are bytes
+count : (n : ℕ) → length {A = ℕ} (replicate n 0) ≡ n
+count n = length-zeros (replicate n 0) n refl
 
 loop-holds : tie.Need-loop-holds Inv-loop μ-loop
-loop-holds c = starts 0 _ _ (sym (length-zeros (length (c .args .bytes .now))))
+loop-holds c = starts 0 _ _ (sym (count (length (c .args .bytes .now))))
 
 slice-write-bytes : tie.Need-slice-write-bytes Inv-loop μ-loop
 slice-write-bytes c = search needs
@@ -33,13 +30,13 @@ add-i c =
     let n = length (c .before .before .args .bytes .now) in
     let l = c .before .loop in
     let few = l .inv .count in
-    let all = length-zeros n in
+    let all = count n in
     search needs
 
 loop-less : tie.Need-loop-less Inv-loop μ-loop
 loop-less c =
     let n = length (c .before .before .args .bytes .now) in
-    omega (arith, c .loop-test .taken, c .before .loop .inv .count, length-zeros n)
+    omega (arith, c .loop-test .taken, c .before .loop .inv .count, count n)
 
 loop-again : tie.Need-loop-again Inv-loop μ-loop
 loop-again c =
@@ -48,7 +45,7 @@ loop-again c =
     more 0 (replicate n 0) (l .bytes) (l .i) 0 (l .inv) (omega (arith, c .loop-test .taken, l .inv .count)) (zero-at n (l .i))
 
 same-length : tie.Need-same-length Inv-loop μ-loop
-same-length c = c .before .loop .inv .count ∙ length-zeros (length (c .before .before .args .bytes .now))
+same-length c = c .before .loop .inv .count ∙ count (length (c .before .before .args .bytes .now))
 
 returns : tie.Need-returns Inv-loop μ-loop
 returns c =

@@ -1,19 +1,15 @@
-use Prim.Native.Nat.{ℕ}
-use mathlib.Core.Path.{_≡_, sym, ap, _∙_}
-use mathlib.Core.List.{List}
+use mathlib.Core.Path.{sym, _∙_}
 use native.Mathlib.Omega.{arith}
-use lib.ListN.{length, replicate, length-replicate}
+use lib.ListN.{length}
 use borrow.Author.Needs.{needs}
 use borrow.Author.Tests.{not-false}
+use Rattle.lists.proofs.Zeros.{length-zeros}
 use Rattle.scan.proofs.Fill.{below-8}
 use Rattle.reading.proofs.Answers.{reads-back}
 use Rattle.reading.proofs.Ahead.{made, lines-ready, cells-room, lines-room, answer-is}
 use Rattle.reading.proofs.Undo.{listed-back}
 use Rattle.reading.proofs.read_guessed.Statement.{statement}
 use Rattle.reading.proofs.read_guessed.Tie as tie
-
-length-zeros : (l : List ℕ) (n : ℕ) → l ≡ replicate n 0 → length l ≡ n
-length-zeros l n e = ap (λ (k : List ℕ). length k) e ∙ length-replicate {A = ℕ} n 0
 
 scan-of-requires : tie.Need-scan-of-requires
 scan-of-requires c κs = search needs
