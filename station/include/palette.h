@@ -124,9 +124,9 @@ uint32_t palette_costs(const uint16_t *adapted, size_t numbers, float costs[301]
  * Returns 0 or 1 to 10, tested in this order; 8, 9 and 10 mean only that there is no palette.
  * Writes from the front, and nothing behind: `map`, an index for each cell, row by row; `flags`,
  * one for each line, that is height of them, or width if transposed. Writes `found`: n, eight
- * colours with zeros past n, and 1 if transposed, else 0; `bits`: what it
- * counted in bits for mode, size, colours and orientation (the head), then for flags and map.
- * palette_estimate makes one figure of the two.
+ * colours with zeros past n, and 1 if transposed, else 0; `bits`: what was counted in bits for
+ * mode, size, colours and orientation (the head), then for flags and map. palette_estimate makes
+ * one figure of the two.
  */
 uint32_t palette_search(const float *samples, size_t count, size_t width, size_t height,
                         uint32_t bd, float lambda, const float *costs, size_t entries,
@@ -156,8 +156,8 @@ static inline uint32_t palette_search_default_env(
 }
 
 /*
- * The bit estimate for weighing a block against other ways to code it: (head + map) x 3, the figure
- * that the search of document 01 calls `bits`. It is not the length of the list. Takes any floats.
+ * The bit estimate for weighing a block against other ways to code it: (head + map) x 3. It is not
+ * the length of the list. Takes any floats.
  */
 float palette_estimate(float head, float map);
 
