@@ -93,8 +93,8 @@ pub fn bytes(replayed: &ReplayedRead) -> Vec<u8> {
     bytes
 }
 
-/// The place is counted from 1; the two ones say that the places behind map and flags kept what
-/// they held.
+/// The place is counted from 1; head and map bits are 0, as a list holds nothing of them; the two
+/// ones say that the places behind map and flags kept what they held.
 pub fn line(place: usize, replayed: &ReplayedRead) -> String {
     let number = replayed.answer.as_ref().err().unwrap_or(&0);
     let found = replayed
@@ -107,7 +107,7 @@ pub fn line(place: usize, replayed: &ReplayedRead) -> String {
     let (map, flags) = found.map_or_else(Default::default, |f| (f.palette.map, f.palette.flags));
     let hash = |cells: &[u8]| hash(cells.iter().map(|&cell| u32::from(cell)));
     format!(
-        "{place} {number} {n} {orientation} {} {} 1 {} 1",
+        "{place} {number} {n} {orientation} {} 0 0 {} 1 {} 1",
         colors.join(" "),
         hash(&map),
         hash(&flags),

@@ -2,15 +2,16 @@
 // are made by the oracle's own reader, never by ours (oracle/README.md).
 // A list is 9 bytes: width, height, bd, cache length, flag room; then map room and word count, each of two bytes,
 // the low one first. Behind them stand the cache, of two bytes each, and the words, of four, the low one first.
-// Its line: its place, the number, n, the orientation, the eight colours, a hash of the map's cells, whether the
-// places behind them kept what they held, a hash of the flags, and whether the places behind them kept what they
-// held.
+// Its line: its place, the number, n, the orientation, the eight colours, head and map bits by their bits, a hash of the map's
+// cells, whether the places behind them kept what they held, a hash of the flags, and whether the places behind them kept what
+// they held.
 // Functions here may have a `requires`.
 use replaying::area;
 use replaying::four;
 use replaying::lines_of;
 use replaying::print_answer;
 use replaying::print_bytes;
+use replaying::print_float;
 use replaying::read_front;
 use replaying::read_pairs;
 use replaying::size;
@@ -78,6 +79,8 @@ fn replay_read(a: Asked, cache: &[u16], words: &[u32], map: &mut [u8], flags: &m
     let colors = read.colors;
     let lines = lines_of(a.width, a.height, read.transposed);
     print_answer(read.number, read.n, read.transposed, colors);
+    print_float(read.head);
+    print_float(read.map_bits);
     print_bytes(map, written(read.number, a.cells));
     print_bytes(flags, written(read.number, lines));
 }

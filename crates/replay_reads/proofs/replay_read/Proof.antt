@@ -28,6 +28,12 @@ lines-of-requires c κs = search needs
 print-answer-requires : tie.Need-print-answer-requires
 print-answer-requires c κs = search needs
 
+print-float-requires : tie.Need-print-float-requires
+print-float-requires c κs = search needs
+
+print-float-requires-2 : tie.Need-print-float-requires-2
+print-float-requires-2 c κs = search needs
+
 written-requires : tie.Need-written-requires
 written-requires c κs = search needs
 
@@ -60,6 +66,8 @@ replay-read-spec =
     read-requires
     lines-of-requires
     print-answer-requires
+    print-float-requires
+    print-float-requires-2
     written-requires
     print-bytes-requires
     written-requires-2
