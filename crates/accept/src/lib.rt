@@ -1,5 +1,7 @@
 // Whether a palette is accepted: the numbers 1, 2 and 11 to 15, in that order; and the answer of search and reading.
 // Open functions answer for all arguments; inner ones require what the tests before them have shown.
+#![tactic(auto)]
+
 ghost use Rattle.std.specs.Prelude.{◌≡◌, ◌&&◌, ◌+◌, ◌*◌, ◌<◌, ◌≤◌, eqb, ltb, leb, length, take, get_or};
 ghost use Rattle.lists.specs.Counted.{within, all_below, all_in};
 ghost use Rattle.context.specs.Map.{row_at, col_at, lines_of, length_of, line_cell};
@@ -12,7 +14,7 @@ use context::{Index, Level};
 
 // The answer: number 0 with the colours, their count and the orientation, or a refusal with zeros; and, where search made
 // it, the bits that it counted for colours and map. `search::estimate` makes one figure of the two.
-#[derive(Drop)]
+#[derive(Clone, Copy)]
 pub struct Palette {
     pub number: u32,
     pub transposed: bool,

@@ -8,6 +8,8 @@
 // real map search gives the same map, flags, error and bits. The expected lines reached come from the original with a
 // counter, and the expected askings from document 02, never from here (oracle/README.md).
 // Functions here may have a `requires`.
+#![tactic(auto)]
+
 ghost use Rattle.std.specs.Prelude.{◌≡◌, cond, ◌+◌, ◌*◌, ◌≤◌, ◌<◌, eqb, length, replicate};
 ghost use Rattle.context.specs.Map.{row_at, col_at, lines_of};
 ghost use Rattle.near.specs.Near.{Below};

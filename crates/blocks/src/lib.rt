@@ -1,5 +1,7 @@
 // The block at the front of a text: a palette in the listing program's form, its list, and what the list counts.
 // Open to the crates above only: functions may require room for every list, so that 16 does not occur.
+#![tactic(auto)]
+
 ghost use Rattle.std.specs.Prelude.{◌≡◌, cond, ◌≤◌, eqb, length};
 ghost use Rattle.lists.specs.Written.{front};
 ghost use Rattle.accept.specs.Palette.{palette_of};
@@ -10,7 +12,7 @@ ghost use Rattle.blocks.specs.Block.{refused_block, listed_block, block_of, word
 use text::Header;
 
 // The number of a refusal or 0, how many bytes of the text are the block's own (0 where its end is not known), and what it counts.
-#[derive(Drop)]
+#[derive(Clone, Copy)]
 pub struct Block {
     pub number: u32,
     pub taken: usize,

@@ -1,4 +1,6 @@
 // The choice of one cell's index among its candidates. Functions may have a `requires`.
+#![tactic(auto)]
+
 ghost use Rattle.std.specs.Prelude.{◌≡◌, ℕ, ◌+◌, ◌*◌, ◌%◌, ◌≤◌, ◌<◌, true, false, cond, length, get_or, pos};
 ghost use Rattle.std.specs.Float.{nan, binary32};
 ghost use Rattle.std.specs.Float.Ieee.{lt, le, of_int};
@@ -11,7 +13,7 @@ ghost use Rattle.cells.specs.Cell.{square, total_of, plus, eight, squares_of, ra
 use context::{Index, Rank};
 
 // Distance and rate, kept together.
-#[derive(Drop)]
+#[derive(Clone, Copy)]
 pub struct Cost {
     pub dist: f32,
     pub rate: f32,

@@ -1,5 +1,7 @@
 // The context at a cell of an index map, with the order of its indices and their ranks. `color_ctx` answers for all
 // arguments; the other functions may have a `requires`.
+#![tactic(auto)]
+
 ghost use Rattle.std.specs.Prelude.{◌≡◌, ◌+◌, ◌*◌, ◌≤◌, ◌<◌, min};
 ghost use Rattle.context.specs.Order.{by_three};
 ghost use Rattle.color_ctx.specs.Context.{answered, refused, context_of};

@@ -1,4 +1,6 @@
 // The 301 costs of the palette symbols from their cumulative rows, in sixteenths of a bit.
+#![tactic(auto)]
+
 ghost use Rattle.std.specs.Prelude.{◌≡◌, ◌⊎◌, ◌+◌, ◌≤◌, ◌<◌, length, get_or};
 ghost use Rattle.costs.specs.Cost.{cost_of, sixteenths};
 ghost use Rattle.costs.specs.Thresholds.{threshold_table};

@@ -1,4 +1,6 @@
 // Counts of bits, and tests of a block's sides. Each function answers for all arguments.
+#![tactic(auto)]
+
 ghost use Rattle.std.specs.Prelude.{◌≡◌};
 ghost use Rattle.counts.specs.Counts.{ceil_log2, uniform_bits, orient_sent, block_allowed};
 

@@ -1,5 +1,7 @@
 // The words of a palette's colours and of its index map, one after the other into a lent buffer. These functions serve the
 // listing, which has tested everything that they require.
+#![tactic(auto)]
+
 ghost use Rattle.std.specs.Prelude.{◌≡◌, true, false, [], ◌∷◌, ℕ, ◌+◌, ◌-◌, ◌*◌, ◌/◌, ◌%◌, ◌≤◌, ◌<◌, eqb, length, take, get_or};
 ghost use Rattle.lists.specs.Counted.{bit, ascending, up_to};
 ghost use Rattle.lists.specs.Written.{written};

@@ -1,5 +1,7 @@
 // Reads the text form: fields of 8 columns, lines of fields, rows of lines.
 // Open to the crates above only: functions may require that a place or a room is large enough.
+#![tactic(auto)]
+
 ghost use Rattle.std.specs.Prelude.{◌≡◌, ◌+◌, ◌*◌, ◌-◌, ◌<◌, ◌≤◌, min, length, get_or};
 ghost use Rattle.lists.specs.Written.{written};
 ghost use Rattle.fields.specs.Fields.{is_digit, column, field_at, number_of, number_up_to, is_line, line_numbers, are_rows, row_numbers, cut};

@@ -1,5 +1,7 @@
 // The levels of a block and their cut into groups: the histogram, the dynamic programme and the colours.
 // Where a function has a `requires`, the crates above have tested it before they call.
+#![tactic(auto)]
+
 ghost use Rattle.std.specs.Prelude.{◌≡◌, true, List, map, ℕ, ◌+◌, ◌*◌, ◌^◌, ◌≤◌, ◌<◌, length, get_or, set, replicate};
 ghost use Rattle.std.specs.Float.{nan};
 ghost use Rattle.ieee.specs.Bounds.{Within};
@@ -10,7 +12,7 @@ ghost use Rattle.groups.specs.Tables.{row_at, Filled, CutsOf, TablesOf};
 
 // The levels that occur, ascending: how many there are, and of each of the first 32 its count, sum and sum of
 // squares.
-#[derive(Drop)]
+#[derive(Clone, Copy)]
 pub struct Histogram {
     pub n: usize,
     pub w: [u64; 32],

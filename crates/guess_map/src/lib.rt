@@ -1,5 +1,7 @@
 // A guess of a map: what the words of a list tell if they are what the listing writes. Nothing is tested, and nothing is said of
 // the cells but that they are below 8: who guesses lists the guess, and compares. Functions may have a `requires`.
+#![tactic(auto)]
+
 ghost use Rattle.std.specs.Prelude.{◌+◌, ◌<◌, ◌≤◌, ◌≡◌, length};
 ghost use Rattle.near.specs.Near.{Below};
 ghost use Rattle.scan.specs.Scan.{Sound};

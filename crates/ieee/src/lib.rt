@@ -1,1 +1,2 @@
 // Floats: definitions in specs/, laws in proofs/. There is no code.
+#![tactic(auto)]

@@ -1,4 +1,6 @@
 // The listing program: a palette's text on standard input, its calls or its refusal on standard output.
+#![tactic(auto)]
+
 fn main() {
     let mut text = io::large_buffer();
     // No palette's text fills the buffer, and a longer text is answered as a whole by its first 65,536 bytes: the law

@@ -1,5 +1,7 @@
 // Definitions and laws on lists, tests and lent buffers that the crates above share; and the copies from one buffer to the
 // front of another.
+#![tactic(auto)]
+
 ghost use Rattle.std.specs.Prelude.{◌≡◌, ◌≤◌, length, take};
 ghost use Rattle.lists.specs.Written.{written};
 

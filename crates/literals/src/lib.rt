@@ -1,5 +1,7 @@
 // Call words, and the literal colours: ascending, each step in as few bits as the steps and the range need.
 // These functions serve the crates above, which meet what they require.
+#![tactic(auto)]
+
 ghost use Rattle.std.specs.Prelude.{◌≡◌, true, [], ◌∷◌, ◌+◌, ◌-◌, ◌^◌, ◌<◌, ◌≤◌, min, max, length, take, drop, get_or};
 ghost use Rattle.lists.specs.Counted.{ascending};
 ghost use Rattle.lists.specs.Written.{written};

@@ -1,4 +1,6 @@
 // The map search: for each line the cheapest of copy, constant and cell by cell. Functions may have a `requires`.
+#![tactic(auto)]
+
 ghost use Rattle.std.specs.Prelude.{◌≡◌, ◌+◌, ◌*◌, ◌-◌, ◌≤◌, ◌<◌, cond, eqb, length, get_or};
 ghost use Rattle.std.specs.Float.{nan, binary32};
 ghost use Rattle.std.specs.Float.Ieee.{add};
@@ -16,7 +18,7 @@ use context::Index;
 use scan::Scan;
 
 // A line's candidate; index is that of a constant line.
-#[derive(Drop)]
+#[derive(Clone, Copy)]
 pub struct Choice {
     pub cost: cells::Cost,
     pub flag: u8,

@@ -1,5 +1,7 @@
 // The row of a cell in the tables of `rows`, and its context: where map search, listing and reading take order and rank
 // from. Functions may have a `requires`.
+#![tactic(auto)]
+
 ghost use Rattle.std.specs.Prelude.{◌≡◌, ◌+◌, ◌*◌, ◌<◌, length};
 ghost use Rattle.rows.specs.Rows.{code_table};
 ghost use Rattle.near.specs.Near.{edge_key, three_key, key_at, Below};

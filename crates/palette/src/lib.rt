@@ -1,4 +1,6 @@
 // The front door: everything that is open to callers, each function for all arguments.
+#![tactic(auto)]
+
 ghost use Rattle.std.specs.Prelude.{◌≡◌, length};
 ghost use Rattle.counts.specs.Counts.{block_allowed};
 ghost use Rattle.color_ctx.specs.Context.{context_of};

@@ -1,5 +1,7 @@
 // Prints the listing program's output into a lent slice: fields of 8 columns, lines of them, the lines of calls.
 // Open to the crates above only: each function requires its room, and returns the place behind what it printed.
+#![tactic(auto)]
+
 ghost use Rattle.std.specs.Prelude.{◌≡◌, cond, [], ◌+◌, ◌*◌, ◌<◌, ◌≤◌, ◌%◌, eqb, length};
 ghost use Rattle.lists.specs.Written.{written};
 ghost use Rattle.printing.specs.Printing.{field, line, call_line, call_lines, listed, refused};

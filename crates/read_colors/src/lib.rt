@@ -1,5 +1,7 @@
 // The colours of a call list: the size, the cache bits and the literals, read one word after the other.
 // Functions may have a `requires`.
+#![tactic(auto)]
+
 ghost use Rattle.std.specs.Prelude.{◌≡◌, [], ◌+◌, ◌-◌, ◌^◌, ◌<◌, ◌≤◌, min, max, take, drop};
 ghost use Rattle.read_colors.specs.Colors.{insert, read_bit, read_cache, read_steps, read_more, read_literals, read_colors};
 ghost use Rattle.read_colors.specs.Held.{in_eight, held_in, Sound};

@@ -1,4 +1,6 @@
 // The flags and the map of a call list, read one word after the other. Functions may have a `requires`.
+#![tactic(auto)]
+
 ghost use Rattle.std.specs.Prelude.{◌≡◌, cond, ◌+◌, ◌<◌, ◌≤◌, eqb, length, drop};
 ghost use Rattle.rows.specs.Rows.{order_table, code_table};
 ghost use Rattle.near.specs.Near.{Below};

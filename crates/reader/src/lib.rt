@@ -1,4 +1,6 @@
 // One word of a call list after the other: a reading holds the list and the place reached in it, and each step takes one word.
+#![tactic(auto)]
+
 ghost use Rattle.std.specs.Prelude.{◌≡◌, ◌<◌};
 ghost use Rattle.reader.specs.Steps.{StepsAt, Took};
 
@@ -11,7 +13,7 @@ pub enum Step {
 }
 
 // A place reached in the list. A fault other than 0 is 20 or 21; the place is then of no account.
-#[derive(Drop)]
+#[derive(Clone, Copy)]
 pub struct Place {
     pub at: usize,
     pub fault: u32,

@@ -1,4 +1,6 @@
 // A call list read back. `read` answers for all arguments; the others serve it.
+#![tactic(auto)]
+
 ghost use Rattle.std.specs.Prelude.{◌≡◌, ◌*◌, ◌≤◌, eqb, length, take, drop, replicate};
 ghost use Rattle.lists.specs.Written.{front};
 ghost use Rattle.lists.specs.Same.{same_list};
@@ -14,7 +16,7 @@ use accept::Palette;
 use reader::{Place, Taken, take};
 
 // What is known ahead of the map: the block, its colours and orientation, and the place reached in the list.
-#[derive(Drop)]
+#[derive(Clone, Copy)]
 struct Head {
     pub width: usize,
     pub height: usize,

@@ -5,6 +5,8 @@
 // the map. Its line: its place, `list`'s number, count and raw width, a hash of the words, whether the places behind them kept
 // what they held; `pred`'s number, a hash of the bits of its values, and whether the places behind them kept what they held.
 // Functions here may have a `requires`.
+#![tactic(auto)]
+
 ghost use Rattle.std.specs.Prelude.{◌≡◌, ◌<◌, ◌≤◌, length};
 
 use replaying::{bits_of, pair, print_buffer, print_number, read_front, read_pairs, size, wide};

@@ -4,6 +4,8 @@
 // bits, a hash of the map's cells, whether the places behind them kept what they held, a hash of the flags, and whether the
 // places behind them kept what they held.
 // Functions here may have a `requires`.
+#![tactic(auto)]
+
 ghost use Rattle.std.specs.Prelude.{◌≡◌, ◌≤◌, length};
 
 use replaying::{BlockHead, lines_of, print_answer, print_bytes, print_float, written};

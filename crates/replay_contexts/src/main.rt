@@ -6,6 +6,8 @@
 // A cell is ten bytes, then its map: the map's length, stride, y, x and n, each of two bytes, the low one first.
 // Its line: its place, the number, the context, the eight places of the order and those of the ranks.
 // Functions here may have a `requires`.
+#![tactic(auto)]
+
 ghost use Rattle.std.specs.Prelude.{◌<◌, ◌≤◌};
 
 use replaying::{hashed, pair, print_number, read_front, size, word};

@@ -4,6 +4,8 @@
 // A table is its length, of two bytes, the low one first, and its numbers, likewise.
 // Its line: its place, the number, and a hash of the bits of the 301 costs.
 // Functions here may have a `requires`.
+#![tactic(auto)]
+
 ghost use Rattle.std.specs.Prelude.{◌≤◌};
 
 use replaying::{bits_of, hash, print_number, read_pairs, size};

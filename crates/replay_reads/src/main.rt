@@ -6,6 +6,8 @@
 // cells, whether the places behind them kept what they held, a hash of the flags, and whether the places behind them kept what
 // they held.
 // Functions here may have a `requires`.
+#![tactic(auto)]
+
 ghost use Rattle.std.specs.Prelude.{◌<◌, ◌≤◌, length};
 
 use replaying::{

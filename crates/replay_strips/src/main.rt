@@ -8,6 +8,8 @@
 // A block's line, where the strip is not refused: the number, n, the orientation, the eight colours, the estimate, head and map
 // bits, each by its bits, a hash of its part of the map and one of its part of the flags, written or not.
 // Functions here may have a `requires`.
+#![tactic(auto)]
+
 ghost use Rattle.std.specs.Prelude.{◌≡◌, ◌<◌, ◌≤◌, length};
 
 use accept::Palette;

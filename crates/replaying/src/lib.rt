@@ -1,6 +1,8 @@
 // What the programs that replay the original's answers have in common: numbers from bytes of standard input, and a
 // line's numbers, with the hash and the untouched rest of a buffer of 4,240 places (oracle/README.md).
 // Functions here may have a `requires`.
+#![tactic(auto)]
+
 ghost use Rattle.std.specs.Prelude.{◌≡◌, cond, ◌+◌, ◌*◌, ◌<◌, ◌≤◌, min, eqb, length};
 ghost use Rattle.std.specs.Float.{binary32};
 ghost use Rattle.std.specs.Float.Ieee.{eq, to_bits};

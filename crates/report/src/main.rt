@@ -1,6 +1,8 @@
 // The block report: palettes one after the other on standard input, a line for each and one with the totals on standard output.
 // The input goes through a window of 65,536 bytes. A turn is one of the loop in `StepsReport` (crate reporting), which says that
 // the turns print the whole input's report; it stands at this room in the proofs (`read_enough`).
+#![tactic(auto)]
+
 ghost use Rattle.std.specs.Prelude.{◌≡◌, ◌≤◌, length};
 ghost use Rattle.window.specs.Window.{Inside};
 ghost use Rattle.reporting.specs.Steps.{Fits};

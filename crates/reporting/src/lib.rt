@@ -1,5 +1,7 @@
 // The block report: a step takes the block at the front of a text, prints its line and adds it to the page's totals.
 // Open to the program only: functions may require room, and a page of fewer than 10,000 lines.
+#![tactic(auto)]
+
 ghost use Rattle.std.specs.Prelude.{◌≡◌, [], ◌∷◌, ◌++◌, ◌+◌, ◌<◌, ◌≤◌, length};
 ghost use Rattle.lists.specs.Written.{written};
 ghost use Rattle.printing.specs.Printing.{field};
@@ -11,7 +13,7 @@ ghost use Rattle.reporting.specs.Steps.{blank, with, next_block, Steps, Fits};
 use blocks::Block;
 
 // How many block lines were printed, and their totals.
-#[derive(Drop)]
+#[derive(Clone, Copy)]
 pub struct Page {
     pub lines: u32,
     pub calls: u32,

@@ -1,4 +1,6 @@
 // The listing program's answer: the output's bytes for the input's bytes.
+#![tactic(auto)]
+
 ghost use Rattle.std.specs.Prelude.{◌≡◌, ◌≤◌, length};
 ghost use Rattle.lists.specs.Written.{written};
 ghost use Rattle.text.specs.Answer.{answer};

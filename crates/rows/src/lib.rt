@@ -1,5 +1,7 @@
 // What three neighbours answer, as two tables with a row of eight for each three: the order of the indices, and the context
 // and the rank of each index; and for reading the order once more, by the neighbour before. Functions may have a `requires`.
+#![tactic(auto)]
+
 ghost use Rattle.std.specs.Prelude.{◌≡◌, ◌<◌, get_or};
 ghost use Rattle.context.specs.Order.{rank_of};
 ghost use Rattle.rows.specs.Rows.{row_of, around_row, order_row, code_at, order_table, code_table, next_table};

@@ -1,5 +1,7 @@
 // Which lambdas, costs and samples are within their ranges, the level of a sample, and the f32 nearest to an f64.
 // Where a function has a `requires`, the crates above have tested it before they call.
+#![tactic(auto)]
+
 ghost use Rattle.std.specs.Prelude.{◌≡◌, ◌-◌, ◌≤◌, ◌<◌, ◌^◌};
 ghost use Rattle.std.specs.Float.{binary32, binary64};
 ghost use Rattle.std.specs.Float.Ieee.{of_bits};

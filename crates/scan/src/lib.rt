@@ -1,4 +1,6 @@
 // The order in which a map's lines are walked, and a line filled or copied. Functions may have a `requires`.
+#![tactic(auto)]
+
 ghost use Rattle.std.specs.Prelude.{◌≡◌, ◌+◌, ◌*◌, ◌-◌, ◌<◌, length};
 ghost use Rattle.context.specs.Map.{row_at, col_at};
 ghost use Rattle.rows.specs.Rows.{code_table};
@@ -6,7 +8,7 @@ ghost use Rattle.near.specs.Near.{Below};
 ghost use Rattle.scan.specs.Scan.{scan_of, place_at, cell_in, fill, key_in, Sound};
 
 // The order in which a map is walked: cell a of line l stands at l * stride + a * step.
-#[derive(Drop)]
+#[derive(Clone, Copy)]
 pub struct Scan {
     pub w: usize,
     pub stride: usize,

@@ -1,5 +1,7 @@
 // The search of a block: its tests, then the sizes in their order, each in both orientations. Functions but `search` may
 // have a `requires`.
+#![tactic(auto)]
+
 ghost use Rattle.std.specs.Prelude.{◌≡◌, List, map, ◌*◌, ◌≤◌, length, replicate, Float};
 ghost use Rattle.std.specs.Float.{binary32};
 ghost use Rattle.ieee.specs.Numbers.{nat};

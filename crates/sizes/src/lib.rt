@@ -1,4 +1,6 @@
 // The sizes of a palette: head, lower bound and order. The block's tests have passed before these are called.
+#![tactic(auto)]
+
 ghost use Rattle.std.specs.Prelude.{◌≡◌, true, false, ℕ, min, ◌≤◌, length, take, get_or};
 ghost use Rattle.std.specs.Float.{nan};
 ghost use Rattle.literals.specs.Literals.{levels_ok};
@@ -8,7 +10,7 @@ ghost use Rattle.sizes.specs.Order.{those, all_sizes, sizes_to};
 ghost use Rattle.sizes.specs.Known.{Known};
 
 // What is the same for all sizes of a block.
-#[derive(Drop)]
+#[derive(Clone, Copy)]
 pub struct Block {
     pub width: usize,
     pub height: usize,
@@ -17,7 +19,7 @@ pub struct Block {
 }
 
 // A size: its colours, the bits before its map, and the cost that its place in the order goes by.
-#[derive(Drop)]
+#[derive(Clone, Copy)]
 pub struct Size {
     pub n: usize,
     pub colors: [u16; 8],

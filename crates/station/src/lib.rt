@@ -1,5 +1,7 @@
 // The front door as C functions, for Rust and C to link. A slice is a pointer and a length. What a function returns beside
 // its number goes to an array, which holds zeros after a refusal.
+#![tactic(auto)]
+
 ghost use Rattle.std.specs.Prelude.{◌≡◌, ◌∷◌, ◌++◌, length, ◌≤◌};
 ghost use Rattle.lists.specs.Written.{written};
 ghost use Rattle.counts.specs.Counts.{block_allowed};

@@ -1,5 +1,7 @@
 // A whole strip at once: up to 64 blocks searched in one call, each with its part of the buffers. Functions but
 // `search_strip` may have a `requires`.
+#![tactic(auto)]
+
 ghost use Rattle.std.specs.Prelude.{◌≡◌, true, ◌+◌, ◌*◌, ◌≤◌, max, length};
 ghost use Rattle.lists.specs.Counted.{within, all_in};
 ghost use Rattle.search.specs.Steps.{price_fault};
@@ -17,7 +19,7 @@ pub struct Strip {
 }
 
 // How many places blocks take in samples and map, and how many in flags; so, where the next one's begin.
-#[derive(Drop)]
+#[derive(Clone, Copy)]
 pub struct Places {
     pub cells: usize,
     pub lines: usize,

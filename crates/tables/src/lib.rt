@@ -1,4 +1,6 @@
 // The default tables of the palette symbols, with readers that answer for all arguments. The numbers are the Rust's.
+#![tactic(auto)]
+
 ghost use Rattle.std.specs.Prelude.{◌≡◌};
 ghost use Rattle.tables.specs.Icdf.{size_icdf, row_icdf, color_rows};
 

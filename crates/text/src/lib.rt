@@ -1,12 +1,14 @@
 // Reads a palette's text at a place of a text.
 // Open to the crates above only: functions may require a header without faults, or room.
+#![tactic(auto)]
+
 ghost use Rattle.std.specs.Prelude.{◌≡◌, cond, ◌+◌, ◌*◌, ◌<◌, ◌≤◌, eqb, length};
 ghost use Rattle.lists.specs.Written.{written};
 ghost use Rattle.fields.specs.Fields.{cut};
 ghost use Rattle.text.specs.Text.{header_at, refused_header, header_fault, Small, lines_in, places_of, is_body, text_number, cache_at, palette_at, read_header};
 
 // The number of a refusal and zeros, or 0 and the header's fields.
-#[derive(Drop)]
+#[derive(Clone, Copy)]
 pub struct Header {
     pub number: u32,
     pub width: usize,

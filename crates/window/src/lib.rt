@@ -1,5 +1,7 @@
 // A window on standard input: what was taken is dropped from its front, and more is read behind the rest.
 // Open to programs only: each function requires places within the buffer.
+#![tactic(auto)]
+
 ghost use Rattle.std.specs.Prelude.{◌≡◌, ◌-◌, ◌≤◌, length, take, drop};
 ghost use Rattle.lists.specs.Written.{written};
 ghost use Rattle.window.specs.Window.{unread, view, Inside, Holds};

@@ -3,6 +3,8 @@
 // narrowed by its bits. Each
 // prints a line; the expected lines are typed from the document and the readings, never from our answers.
 // All blocks have bd 8 and costs 0; lambda is 1 where none is named. Functions here may have a `requires`.
+#![tactic(auto)]
+
 ghost use Rattle.std.specs.Prelude.{◌<◌, ◌≤◌, ◌*◌, ◌≡◌, length};
 
 fn level(i: usize, levels: usize) -> f32
