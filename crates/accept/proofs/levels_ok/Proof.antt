@@ -1,4 +1,3 @@
--- The loop's invariant: the test of what is left, after the last colour read, is the test of all. Assumes nothing.
 use mathlib.Core.Bool.{◌&&◌}
 use mathlib.Core.Path.{◌≡◌, refl, sym, ap, ◌∙◌}
 use Prim.Native.Nat.{◌≤◌, ◌-◌, ◌+◌, ◌^◌}
@@ -16,11 +15,12 @@ use Rattle.accept.proofs.Levels.{levels_after, levels_first, levels_next}
 use Rattle.accept.proofs.levels_ok.Statement.{statement}
 use Rattle.accept.proofs.levels_ok.Tie as tie
 
-abbrev invariant-loop : tie.invariant-loop
+-- The loop's invariant: the test of what is left, after the last colour read, is the test of all. Assumes nothing.
+abbrev invariant-loop : tie.invariant-loop-i
 invariant-loop n bd colors top last₀ i₀ last i =
     (1 ≤ i) × (i ≤ n) × (levels_after bd last.0 (drop i (take n colors)) ≡ levels_ok bd (take n colors))
 
-abbrev decreases-loop : tie.decreases-loop
+abbrev decreases-loop : tie.decreases-loop-i
 decreases-loop n bd colors top last₀ i₀ last i = n - i
 
 room : (c : tie.Start invariant-loop decreases-loop) → c.args.n ≤ length c.args.t1
@@ -31,66 +31,66 @@ first : (c : tie.Start invariant-loop decreases-loop) → let a = c.args in let 
 first c = ap (levels_ok c.args.bd) (next c.args.n c.args.t1 (room c) 0 c.requires.0) ∙ levels_first _ _ _
 
 -- what is left at place i, by the test of that colour
-following : (c : tie.After-between invariant-loop decreases-loop) → let a = c.before.before.before.before.before.before.before.args in let l = c.before.before.loop in
+following : (c : tie.After-between invariant-loop decreases-loop) → let a = c.before.before.before.before.before.before.before.args in let l = c.before.before.loop-i in
     levels_after a.bd l.last.0 (drop l.i (take a.n a.t1))
     ≡ c.between.result && levels_after a.bd (get_or a.t1 l.i 0) (drop (l.i + 1) (take a.n a.t1))
 following c =
     let a = c.before.before.before.before.before.before.before.args in
-    let l = c.before.before.loop in
-    ap (levels_after a.bd l.last.0) (next a.n a.t1 (room c.before.before.before.before.before.before.before) l.i c.before.loop-test.true)
+    let l = c.before.before.loop-i in
+    ap (levels_after a.bd l.last.0) (next a.n a.t1 (room c.before.before.before.before.before.before.before) l.i c.before.loop-i-test.true)
     ∙ levels_next _ _ _ _
-    ∙ rw (c.between.ensures, c.before.before.before.before.before.before.top-level.ensures) refl
+    ∙ rw (c.between.ensures, c.before.before.before.before.before.before.top_level-top.ensures) refl
 
-top-level-requires : tie.Need-top-level-requires invariant-loop decreases-loop
+top-level-requires : tie.Need-top_level-top-requires invariant-loop decreases-loop
 top-level-requires c κs = c.requires.2
 
-array-read-t11 : tie.Need-array-read-t11 invariant-loop decreases-loop
+array-read-t11 : tie.Need-bounds-colors-0 invariant-loop decreases-loop
 array-read-t11 c = search rules
 
-returns : tie.Need-returns invariant-loop decreases-loop
+returns : tie.Need-returns-then-top-last invariant-loop decreases-loop
 returns c =
-    sym (first c.before.before.before.before ∙ rw (lt-leb _ _ (rw c.before.before.before.top-level.ensures at c.if1.true)) refl)
+    sym (first c.before.before.before.before ∙ rw (lt-leb _ _ (rw c.before.before.before.top_level-top.ensures at c.if-top-last.true)) refl)
 
-loop-holds : tie.Need-loop-init invariant-loop decreases-loop
+loop-holds : tie.Need-loop-i-init invariant-loop decreases-loop
 loop-holds c = (
   search rules,
   search rules,
-  sym (first c.before.before.before.before ∙ rw (le-leb _ _ (rw c.before.before.before.top-level.ensures at c.if1.false)) refl),
+  sym (first c.before.before.before.before ∙ rw (le-leb _ _ (rw c.before.before.before.top_level-top.ensures at c.if-top-last.false)) refl),
 )
 
-mul-t14 : tie.Need-overflow-mul-t14 invariant-loop decreases-loop
+mul-t14 : tie.Need-offset_bounds-colors-i invariant-loop decreases-loop
 mul-t14 c = search rules
 
-array-read-t17 : tie.Need-array-read-t17 invariant-loop decreases-loop
+array-read-t17 : tie.Need-bounds-colors-i invariant-loop decreases-loop
 array-read-t17 c = search rules
 
 between-requires : tie.Need-between-requires invariant-loop decreases-loop
 between-requires c κs = search rules
 
-returns-2 : tie.Need-returns-2 invariant-loop decreases-loop
-returns-2 c = rw (following c.before, not-true c.before.between.result c.if2.true) at c.before.before.before.loop.invariant.2
+returns-2 : tie.Need-returns-then-not-between invariant-loop decreases-loop
+returns-2 c = rw (following c.before, not-true c.before.between.result c.if-not-between.true) at c.before.before.before.loop-i.invariant.2
 
-add-i : tie.Need-overflow-add-i invariant-loop decreases-loop
+add-i : tie.Need-overflow_add-i invariant-loop decreases-loop
 add-i c = search rules
 
-loop-less : tie.Need-loop-smaller invariant-loop decreases-loop
+loop-less : tie.Need-loop-i-smaller invariant-loop decreases-loop
 loop-less c = search rules
 
-loop-again : tie.Need-loop-preserved invariant-loop decreases-loop
+loop-again : tie.Need-loop-i-preserved invariant-loop decreases-loop
 loop-again c = (
   search rules,
   search rules,
-  rw (following c.before, not-false c.before.between.result c.if2.false) at c.before.before.before.loop.invariant.2,
+  rw (following c.before, not-false c.before.between.result c.if-not-between.false) at c.before.before.before.loop-i.invariant.2,
 )
 
-returns-3 : tie.Need-returns-3 invariant-loop decreases-loop
+returns-3 : tie.Need-returns invariant-loop decreases-loop
 unfolding levels_after above all_in
 returns-3 c =
     let a = c.before.before.before.before.before.before.args in
-    rw (done a.n a.t1 (room c.before.before.before.before.before.before) c.before.loop.i c.loop-test.false) at c.before.loop.invariant.2
+    rw (done a.n a.t1 (room c.before.before.before.before.before.before) c.before.loop-i.i c.loop-i-test.false) at c.before.loop-i.invariant.2
 
-pub levels-ok-spec : {M : Type 1} → statement M
-levels-ok-spec =
+pub levels_ok_spec : {M : Type 1} → statement M
+levels_ok_spec =
     tie.close
     (tie.spec
     invariant-loop

@@ -36,66 +36,66 @@ module _ (s : tie.Start) where
   cache = s.args.cache.now
 
   count : length colors ≡ s.args.n
-  count = length-take-le s.args.n s.args.colors (eight s.args.n s.args.colors _ s.good.0 s.pre.0.1)
+  count = length-take-le s.args.n s.args.colors (eight s.args.n s.args.colors _ s.good.0 s.requires.le_n.1)
 
   whole : s.args.at + 1 + length (cache_words cache colors) + length (literals s.args.bd cache colors) ≤ length s.args.out.now
-  whole = omega (arith, s.pre.1, sum s.args.bd cache colors)
+  whole = omega (arith, s.requires.colors_in_bounds, sum s.args.bd cache colors)
 
-sub-call : tie.Need-overflow-sub-call
+sub-call : tie.Need-overflow_sub-n
 sub-call c = search rules
 
-cast-call : tie.Need-overflow-cast-call
+cast-call : tie.Need-overflow_cast-n
 cast-call c = search rules
 
 call-requires : tie.Need-call-requires
 call-requires c κs = search rules
 
-put-requires : tie.Need-put-requires
+put-requires : tie.Need-put-next-requires
 put-requires c κs =
     let s = c.before.before.before.before in
     let h : s.args.at < length s.args.out.now = omega (arith, whole s) in
     h
 
-emit-cache-bits-requires : tie.Need-emit-cache-bits-requires
+emit-cache-bits-requires : tie.Need-emit_cache_bits-sent-requires
 emit-cache-bits-requires c κs =
     let s = c.before.before.before.before.before.before.before.before in
-    let p = c.before.before.before.put in
-    let h : p.result + length (cache_words (cache s) (colors s)) ≤ length p.new.0 =
-    omega (arith, whole s, p.ensures.0, p.auto.0) in
-    ((s.requires.0.1, levels_ascend s.args.bd (colors s) s.requires.0.4), h)
+    let p = c.before.before.before.put-next in
+    let h : p.result + length (cache_words (cache s) (colors s)) ≤ length p.new.out =
+    omega (arith, whole s, p.ensures.0, p.auto.out) in
+    record { n_bound = (s.requires.le_n.1, levels_ascend s.args.bd (colors s) s.requires.le_n.4); colors_in_bounds = h }
 
-emit-literals-requires : tie.Need-emit-literals-requires
+emit-literals-requires : tie.Need-emit_literals-requires
 emit-literals-requires c κs =
     let s = c.before.before.before.before.before.before.before.before.before.before.before.before.before.before in
-    let p = c.before.before.before.before.before.before.before.before.before.put in
-    let e = c.before.before.before.before.before.emit-cache-bits in
+    let p = c.before.before.before.before.before.before.before.before.before.put-next in
+    let e = c.before.before.before.before.before.emit_cache_bits-sent in
     let left = untaken (cache s) (colors s) in
-    let h : e.result.next + length (literal_words s.args.bd left) ≤ length e.new.1.1.1.0 =
-    omega (arith, whole s, p.ensures.0, p.auto.0, e.ensures.1.1.0, e.auto.1.1.1.0) in
-    rw e.ensures.1.0
-    ((omega (arith, e.ensures.0, untaken_few (cache s) (colors s), count s, s.requires.0.1), s.requires.0.2, s.requires.0.3, levels_untaken s.args.bd (cache s) (colors s) s.requires.0.4), h)
+    let h : e.result.next + length (literal_words s.args.bd left) ≤ length e.new.out =
+    omega (arith, whole s, p.ensures.0, p.auto.out, e.ensures.next_value, e.auto.out) in
+    rw e.ensures.colors_value
+    (record { n_bound = (omega (arith, e.ensures.count_value, untaken_few (cache s) (colors s), count s, s.requires.le_n.1), s.requires.le_n.2, s.requires.le_n.3, levels_untaken s.args.bd (cache s) (colors s) s.requires.le_n.4); colors_in_bounds = h })
 
-same_length : tie.Need-same-length
+same_length : tie.Need-shape_of-out
 same_length c = search rules
 
 returns : tie.Need-returns
 unfolding written
 returns c =
-    let e = c.before.before.before.before.before.before.before.before.emit-cache-bits in
+    let e = c.before.before.before.before.before.before.before.before.emit_cache_bits-sent in
     let p = c.before.before.before.before.before.before.before.before.before.before.before.before in
     let s = p.before.before.before.before.before in
-    let l = c.before.before.emit-literals in
+    let l = c.before.before.emit_literals in
     let a = s.args in
     let next = a.at + 1 in
-    let first = word 3 0 (length (colors s) - 2) in (
-      omega (arith, rw e.ensures.1.0 at l.ensures.0, e.ensures.1.1.0, p.put.ensures.0, sum a.bd (cache s) (colors s)),
-      (rw e.ensures.1.0 at l.ensures.1)
-          ∙ rw (e.ensures.1.1.1, e.ensures.1.1.0, p.put.ensures.1, p.put.ensures.0, p.before.call.ensures, parts a.bd (cache s) (colors s), count s)
-          (written_append _ next (cache_words (cache s) (colors s)) (literals a.bd (cache s) (colors s))),
-    )
+    let first = word 3 0 (length (colors s) - 2) in record {
+      value = omega (arith, rw e.ensures.colors_value at l.ensures.value, e.ensures.next_value, p.put-next.ensures.0, sum a.bd (cache s) (colors s));
+      out_after = (rw e.ensures.colors_value at l.ensures.out_after)
+          ∙ rw (e.ensures.out_after, e.ensures.next_value, p.put-next.ensures.1, p.put-next.ensures.0, p.before.call.ensures, parts a.bd (cache s) (colors s), count s)
+          (written_append _ next (cache_words (cache s) (colors s)) (literals a.bd (cache s) (colors s)));
+    }
 
-pub emit-colors-spec : {M : Type 1} → statement M
-emit-colors-spec =
+pub emit_colors_spec : {M : Type 1} → statement M
+emit_colors_spec =
     tie.close
     (tie.spec
     sub-call

@@ -18,32 +18,32 @@ use Rattle.emit.proofs.leave_out.Statement.{statement}
 use Rattle.emit.proofs.leave_out.Tie as tie
 
 -- what is kept so far, and what is kept of the rest
-abbrev invariant-loop : tie.invariant-loop
+abbrev invariant-loop : tie.invariant-loop-i
 invariant-loop count level colors left₀ k₀ i₀ left k i =
     (i ≤ count) × (k ≤ i) × (length left ≡ 8)
     × (take k left ++ without level.0 (drop i (take count colors)) ≡ without level.0 (take count colors))
 
-abbrev decreases-loop : tie.decreases-loop
+abbrev decreases-loop : tie.decreases-loop-i
 decreases-loop count level colors left₀ k₀ i₀ left k i = count - i
 
 room : (c : tie.Start invariant-loop decreases-loop) → c.args.count ≤ length c.args.t1
 room c = omega (arith, c.requires.0, good_length (e_int w16) 8 c.args.t1 _ c.well-formed.0)
 
-module _ (c : tie.In-loop invariant-loop decreases-loop) where
+module _ (c : tie.In-loop-i invariant-loop decreases-loop) where
   abbrev e : ℕ
   e = c.before.before.args.level.0
 
   abbrev this : ℕ
-  this = get_or c.before.before.args.t1 c.before.loop.i 0
+  this = get_or c.before.before.args.t1 c.before.loop-i.i 0
 
   abbrev now : List ℕ
-  now = drop c.before.loop.i (take c.before.before.args.count c.before.before.args.t1)
+  now = drop c.before.loop-i.i (take c.before.before.args.count c.before.before.args.t1)
 
   abbrev rest : List ℕ
-  rest = drop (c.before.loop.i + 1) (take c.before.before.args.count c.before.before.args.t1)
+  rest = drop (c.before.loop-i.i + 1) (take c.before.before.args.count c.before.before.args.t1)
 
   split : now ≡ this ∷ rest
-  split = next c.before.before.args.count c.before.before.args.t1 (room c.before.before) c.before.loop.i c.loop-test.true
+  split = next c.before.before.args.count c.before.before.args.t1 (room c.before.before) c.before.loop-i.i c.loop-i-test.true
 
   kept : (this ≡ e → ⊥) → without e now ≡ this ∷ without e rest
   unfolding without
@@ -53,39 +53,39 @@ module _ (c : tie.In-loop invariant-loop decreases-loop) where
   unfolding without
   gone h = rw (split, eq-eqb _ _ (sym h)) refl
 
-loop-holds : tie.Need-loop-init invariant-loop decreases-loop
+loop-holds : tie.Need-loop-i-init invariant-loop decreases-loop
 loop-holds c = (search rules, search rules, refl, refl)
 
-mul-c : tie.Need-overflow-mul-c invariant-loop decreases-loop
+mul-c : tie.Need-offset_bounds-colors-i invariant-loop decreases-loop
 mul-c c = search rules
 
-array-read-c : tie.Need-array-read-c invariant-loop decreases-loop
+array-read-c : tie.Need-bounds-colors-i invariant-loop decreases-loop
 array-read-c c = search rules
 
-mul_left : tie.Need-overflow-mul-left invariant-loop decreases-loop
+mul_left : tie.Need-offset_bounds-left-k invariant-loop decreases-loop
 mul_left c = search rules
 
-array-write-left : tie.Need-array-write-left invariant-loop decreases-loop
+array-write-left : tie.Need-bounds-left-k invariant-loop decreases-loop
 array-write-left c = search rules
 
-add-k : tie.Need-overflow-add-k invariant-loop decreases-loop
+add-k : tie.Need-overflow_add-k invariant-loop decreases-loop
 add-k c = search rules
 
-add-i : tie.Need-overflow-add-i invariant-loop decreases-loop
+add-i : tie.Need-overflow_add-i invariant-loop decreases-loop
 add-i c = search rules
 
-loop-less : tie.Need-loop-smaller invariant-loop decreases-loop
+loop-less : tie.Need-loop-i-smaller invariant-loop decreases-loop
 loop-less c = search rules
 
-loop-again : tie.Need-loop-preserved invariant-loop decreases-loop
+loop-again : tie.Need-loop-i-preserved invariant-loop decreases-loop
 loop-again c =
     let w₀ = c.before.before in
-    let l = w₀.before.loop in
+    let l = w₀.before.loop-i in
     let acc = take l.k l.left in
-    let hk : l.k < length l.left = omega (arith, l.invariant.2, l.invariant.1, l.invariant.0, w₀.loop-test.true, w₀.before.before.requires.0) in
+    let hk : l.k < length l.left = omega (arith, l.invariant.2, l.invariant.1, l.invariant.0, w₀.loop-i-test.true, w₀.before.before.requires.0) in
     ⊎_elim
     (λ w.
-    let a : take c.if1.k c.if1.left ≡ acc ++ (this w₀ ∷ []) = rw (w.1, w.2, add-one) (take-suc-set l.left l.k (this w₀) hk) in (
+    let a : take c.if-c-level.k c.if-c-level.false ≡ acc ++ (this w₀ ∷ []) = rw (w.1, w.2, add-one) (take-suc-set l.left l.k (this w₀) hk) in (
       omega arith,
       omega (arith, w.2, l.invariant.1),
       ap length w.1 ∙ length-set l.left l.k (this w₀) ∙ l.invariant.2,
@@ -98,24 +98,24 @@ loop-again c =
       ap length w.1 ∙ l.invariant.2,
       rw (w.1, w.2) (rw (gone w₀ w.0.left) at l.invariant.3),
     ))
-    c.if1.branch
+    c.if-c-level.branch
 
 returns : tie.Need-returns invariant-loop decreases-loop
 unfolding without
 returns c =
-    let l = c.before.loop in
+    let l = c.before.loop-i in
     let s = c.before.before.args in
     let acc = take l.k l.left in
     let hl : length acc ≡ l.k = length-take-le l.k l.left (omega (arith, l.invariant.2, l.invariant.1, l.invariant.0, c.before.before.requires.0)) in
     let all = take s.count s.t1 in
     let h : acc ≡ remove s.level.0 all =
     sym (append-nil acc)
-    ∙ (rw (done s.count s.t1 (room c.before.before) l.i c.loop-test.false) at l.invariant.3)
+    ∙ (rw (done s.count s.t1 (room c.before.before) l.i c.loop-i-test.false) at l.invariant.3)
     ∙ without_remove s.level.0 all (ascending_is all c.before.before.requires.1) in
-    (sym hl ∙ ap length h, h)
+    record { count_value = sym hl ∙ ap length h; colors_value = h }
 
-pub leave-out-spec : {M : Type 1} → statement M
-leave-out-spec =
+pub leave_out_spec : {M : Type 1} → statement M
+leave_out_spec =
     tie.close
     (tie.spec
     invariant-loop

@@ -1,4 +1,3 @@
--- The invariant: what is counted and the cells left make up the whole, level by level.
 use mathlib.Core.Path.{◌≡◌, refl, sym, ap, ◌∙◌}
 use mathlib.Core.List.{List, [], map}
 use Prim.Native.Nat.{ℕ, ◌+◌, ◌-◌, ◌≤◌, ◌<◌}
@@ -18,16 +17,17 @@ use Rattle.groups.proofs.Levels.{occurs_le, counted}
 use Rattle.groups.proofs.count_levels.Statement.{statement}
 use Rattle.groups.proofs.count_levels.Tie as tie
 
-abbrev invariant-loop : tie.invariant-loop
+-- The invariant: what is counted and the cells left make up the whole, level by level.
+abbrev invariant-loop : tie.invariant-loop-i
 invariant-loop samples counts₀ i₀ counts i =
     (i ≤ length samples) × (length counts ≡ 4096)
     × ((v : ℕ) → v < 4096 → get_or counts v 0 + occurs (map level_of (drop i samples)) v ≡ occurs (map level_of samples) v)
 
-abbrev decreases-loop : tie.decreases-loop
+abbrev decreases-loop : tie.decreases-loop-i
 decreases-loop samples counts₀ i₀ counts i = length samples - i
 
 abbrev Called : Type 0
-Called = tie.After-level-of invariant-loop decreases-loop
+Called = tie.After-level_of-v invariant-loop decreases-loop
 
 abbrev start : Called → tie.Start invariant-loop decreases-loop
 start c = c.before.before.before.before.before
@@ -40,7 +40,7 @@ at c = c.before.before.before.loop.i
 
 level_small : (c : Called) → c.level-of.result < 4096
 level_small c =
-    let w = (start c).requires.0.1 (at c) c.before.before.loop-test.true in
+    let w = (start c).requires.samples_len_bound.1 (at c) c.before.before.loop-test.true in
     omega (arith, c.level-of.ensures, level_within (get_or (cells c) (at c) nan) 4095 w.0)
 
 -- the cells left, of which the first has the level x
@@ -60,53 +60,53 @@ few c =
     let v = c.level-of.result in
     let n = length-map (cells c) level_of in
     let e = c.before.before.before.loop.invariant.2 v (level_small c) in
-    omega (arith, occurs_le (map level_of (cells c)) v, (start c).requires.0.0)
+    omega (arith, occurs_le (map level_of (cells c)) v, (start c).requires.samples_len_bound.0)
 
-loop-holds : tie.Need-loop-init invariant-loop decreases-loop
+loop-holds : tie.Need-loop-i-init invariant-loop decreases-loop
 loop-holds c =
-    let e = c.before.requires.1 in (
+    let e = c.before.requires.counts_value in (
       omega arith,
       ap length e ∙ length-replicate {A = ℕ} 4096 0,
       λ v h. rw (e, get_or-replicate {A = ℕ} 4096 v 0 0 h, zero-add) refl,
     )
 
-mul-level-of : tie.Need-overflow-mul-level-of invariant-loop decreases-loop
+mul-level-of : tie.Need-offset_bounds-samples-i invariant-loop decreases-loop
 mul-level-of c =
     let s = c.before.before.before in
-    scaled_Fits c.before.loop.i (length s.args.samples.now) 4 c.loop-test.true s.well-formed.0.1
+    scaled_Fits c.before.loop-i.i (length s.args.samples.now) 4 c.loop-i-test.true s.well-formed.0.1
 
-shared-slice-read-level-of : tie.Need-shared-slice-read-level-of invariant-loop decreases-loop
-shared-slice-read-level-of c = c.before.loop-test.true
+shared-slice-read-level-of : tie.Need-bounds-samples-i invariant-loop decreases-loop
+shared-slice-read-level-of c = c.before.loop-i-test.true
 
-level-of-requires : tie.Need-level-of-requires invariant-loop decreases-loop
+level-of-requires : tie.Need-level_of-v-requires invariant-loop decreases-loop
 level-of-requires c κs =
-    c.before.before.before.before.requires.0.1 c.before.before.loop.i c.before.loop-test.true
+    c.before.before.before.before.requires.samples_len_bound.1 c.before.before.loop-i.i c.before.loop-i-test.true
 
-cast-v : tie.Need-overflow-cast-v invariant-loop decreases-loop
+cast-v : tie.Need-overflow_cast-v invariant-loop decreases-loop
 cast-v c = omega (arith, level_small c)
 
-mul-counts : tie.Need-overflow-mul-counts invariant-loop decreases-loop
+mul-counts : tie.Need-offset_bounds-counts-v invariant-loop decreases-loop
 mul-counts c = omega (arith, level_small c)
 
-element-copy-out-counts : tie.Need-element-copy-out-counts invariant-loop decreases-loop
+element-copy-out-counts : tie.Need-bounds-counts-v invariant-loop decreases-loop
 element-copy-out-counts c = level_small c
 
-add-counts : tie.Need-overflow-add-counts invariant-loop decreases-loop
+add-counts : tie.Need-overflow_add-counts invariant-loop decreases-loop
 add-counts c = omega (arith, few c.before)
 
-element-write-counts : tie.Need-element-write-counts invariant-loop decreases-loop
+element-write-counts : tie.Need-bounds-counts-v-in-loop-i invariant-loop decreases-loop
 element-write-counts c = level_small c.before
 
-add-i : tie.Need-overflow-add-i invariant-loop decreases-loop
+add-i : tie.Need-overflow_add-i invariant-loop decreases-loop
 add-i c = omega arith
 
-loop-less : tie.Need-loop-smaller invariant-loop decreases-loop
+loop-less : tie.Need-loop-i-smaller invariant-loop decreases-loop
 loop-less c = omega arith
 
-loop-again : tie.Need-loop-preserved invariant-loop decreases-loop
+loop-again : tie.Need-loop-i-preserved invariant-loop decreases-loop
 loop-again c =
-    let l = c.before.before.before.before.loop in
-    let x = c.before.level-of.result in
+    let l = c.before.before.before.before.loop-i in
+    let x = c.before.level_of-v.result in
     let in-counts : x < length l.counts = rw l.invariant.1 (level_small c.before) in (
       omega arith,
       length-set l.counts x _ ∙ l.invariant.1,
@@ -116,13 +116,13 @@ loop-again c =
 returns : tie.Need-returns invariant-loop decreases-loop
 unfolding occurs
 returns c =
-    let l = c.before.loop in
+    let l = c.before.loop-i in
     let xs = c.before.before.before.args.samples.now in
     let e : drop l.i xs ≡ [] = drop_of_length-le xs {i = l.i} (omega arith) in
     λ v h. sym (add-zero _) ∙ (rw e at (l.invariant.2 v h))
 
-pub count-levels-spec : {M : Type 1} → statement M
-count-levels-spec =
+pub count_levels_spec : {M : Type 1} → statement M
+count_levels_spec =
     tie.close
     (tie.spec
     invariant-loop

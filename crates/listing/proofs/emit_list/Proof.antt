@@ -38,16 +38,16 @@ module _ (s : tie.Start) where
   map = map_words s.args.n s.args.transposed s.args.flags.now s.args.map.now s.args.width s.args.height
 
   known : Facts s.args.width s.args.height s.args.bd palette
-  known = facts _ _ _ _ _ s.pre.0
+  known = facts _ _ _ _ _ s.requires.accepted
 
   eight : length s.args.colors ≡ 8
   eight = good_length (e_int w16) 8 s.args.colors _ s.good.1.1.1.0
 
   taken : first_colors s.args.colors s.args.n ≡ take s.args.n s.args.colors
-  taken = first_colors_holds s.args.colors eight s.args.n s.pre.1.0
+  taken = first_colors_holds s.args.colors eight s.args.n s.requires.n_bound.0
 
   count : length (first_colors s.args.colors s.args.n) ≡ s.args.n
-  count = length_first s.args.colors eight s.args.n s.pre.1.0
+  count = length_first s.args.colors eight s.args.n s.requires.n_bound.0
 
   parts : list ≡ colors ++ map
   unfolding call_list
@@ -57,7 +57,7 @@ module _ (s : tie.Start) where
   sum = rw parts (length-append colors map)
 
   room : length colors + length map ≤ length s.args.out.now
-  room = omega (arith, s.pre.1.1, list_few _ _ _ _ _ s.pre.0, sum)
+  room = omega (arith, s.requires.n_bound.1, list_few _ _ _ _ _ s.requires.accepted, sum)
 
   lines_inside : LinesInside s.args.map.now s.args.width s.args.n s.args.transposed
       (lines_of s.args.transposed s.args.width s.args.height) (length_of s.args.transposed s.args.width s.args.height)
@@ -70,61 +70,61 @@ module _ (s : tie.Start) where
       ≡ raw_width_of colors + (bit (orient_sent s.args.width s.args.height) + raw_bits (word 2 s.args.n (get_or s.args.map.now 0 0)))
   raw = ap raw_width_of parts ∙ raw_append colors map ∙ ap (λ (k : ℕ). raw_width_of colors + k) (rw count at (raw_map _ _ _ _ known))
 
--- the colours stand in front
-module _ (c : tie.After-emit-colors) where
+module _ (c : tie.After-emit_colors-at) where
   abbrev start : tie.Start
   start = c.before.before.before.before.before.before
 
   abbrev out : List ℕ
-  out = c.emit-colors.new.1.1.1.1.0
+  out = c.emit_colors-at.new.out
 
-  at_most : c.emit-colors.result ≤ 4234
-  at_most = omega (arith, c.emit-colors.ensures.0, sum start, list_few _ _ _ _ _ start.pre.0)
+  at_most : c.emit_colors-at.result ≤ 4234
+  at_most = omega (arith, c.emit_colors-at.ensures.value, sum start, list_few _ _ _ _ _ start.pre.0)
 
-  enough : c.emit-colors.result ≤ length out
-  enough = omega (arith, c.emit-colors.ensures.0, room start, c.emit-colors.auto.1.1.1.1.0)
+  enough : c.emit_colors-at.result ≤ length out
+  enough = omega (arith, c.emit_colors-at.ensures.value, room start, c.emit_colors-at.auto.out)
 
-  taken_colors : take c.emit-colors.result out ≡ colors start
+  taken_colors : take c.emit_colors-at.result out ≡ colors start
   taken_colors =
-      let count : c.emit-colors.result ≡ length (colors start) = omega (arith, c.emit-colors.ensures.0) in
-      ap (λ (k : ℕ). take k out) count ∙ ap (take (length (colors start))) c.emit-colors.ensures.1
+      let count : c.emit_colors-at.result ≡ length (colors start) = omega (arith, c.emit_colors-at.ensures.value) in
+      ap (λ (k : ℕ). take k out) count ∙ ap (take (length (colors start))) c.emit_colors-at.ensures.out_after
       ∙ written_take start.args.out.now (colors start) (omega (arith, room start))
 
-emit-colors-requires : tie.Need-emit-colors-requires
+-- the colours stand in front
+emit-colors-requires : tie.Need-emit_colors-at-requires
 emit-colors-requires c κs =
     let s = c.before.before.before.before.before in
     let f = known s in
     let h : 0 + length (colors s) ≤ length s.args.out.now = omega (arith, room s) in
-    ((rw (count s) at f.enough, s.requires.1.0, f.deep, f.deep_most, rw (taken s) at f.levels), h)
+    record { le_n = (rw (count s) at f.enough, s.requires.n_bound.0, f.deep, f.deep_most, rw (taken s) at f.levels); colors_in_bounds = h }
 
-raw-width-requires : tie.Need-raw-width-requires
+raw-width-requires : tie.Need-raw_width-before-requires
 raw-width-requires c κs =
     let e = c.before.before.before in
-    let h : e.emit-colors.result ≤ length (out e) = enough e in
+    let h : e.emit_colors-at.result ≤ length (out e) = enough e in
     (h, omega (arith, at_most e))
 
-emit-map-requires : tie.Need-emit-map-requires
+emit-map-requires : tie.Need-emit_map-count-requires
 emit-map-requires c κs =
     let e = c.before.before.before.before.before in
     let s = start e in
-    let h : e.emit-colors.result + length (map s) ≤ length (out e) =
-    omega (arith, room s, e.emit-colors.ensures.0, e.emit-colors.auto.1.1.1.1.0) in
-    ((lines_inside s, (known s).wide_most, cells_few s), ((long _ _ _ _ (known s), omega (arith, (known s).flag_length)), h))
+    let h : e.emit_colors-at.result + length (map s) ≤ length (out e) =
+    omega (arith, room s, e.emit_colors-at.ensures.value, e.emit_colors-at.auto.out) in
+    record { lines_inside = (lines_inside s, (known s).wide_most, cells_few s); in_bounds = (long _ _ _ _ (known s), omega (arith, (known s).flag_length)); h_in_bounds = h }
 
-shared-slice-read-t23 : tie.Need-shared-slice-read-t23
+shared-slice-read-t23 : tie.Need-bounds-map-0
 shared-slice-read-t23 c =
     let e = c.before.before.before.before.before.before.before.before.before in
     some_cell _ _ _ _ (known (start e))
 
-map-raw-width-requires : tie.Need-map-raw-width-requires
+map-raw-width-requires : tie.Need-map_raw_width-requires
 map-raw-width-requires c κs = search rules
 
-add-raw : tie.Need-overflow-add-raw
+add-raw : tie.Need-overflow_add-raw
 add-raw c =
     let r = c.before.before.before.before.before.before in
-    omega (arith, r.raw-width.ensures.1, at_most r.before.before.before.before, c.map-raw-width.ensures.1)
+    omega (arith, r.raw_width-before.ensures.1, at_most r.before.before.before.before, c.map_raw_width.ensures.1)
 
-same_length : tie.Need-same-length
+same_length : tie.Need-shape_of-out
 same_length c = search rules
 
 returns : tie.Need-returns
@@ -132,17 +132,15 @@ returns c =
     let m = c.before.before.before.before in
     let r = m.before.before in
     let e = r.before.before.before.before in
-    let s = start e in (
-      (refl, omega (arith, m.emit-map.ensures.0, e.emit-colors.ensures.0, sum s)),
-      (
-        omega (arith, r.raw-width.ensures.0, ap raw_width_of (taken_colors e), c.map-raw-width.ensures.0, raw s),
-        m.emit-map.ensures.1
-            ∙ rw (e.emit-colors.ensures.1, e.emit-colors.ensures.0, parts s) (written_append s.args.out.now 0 (colors s) (map s)),
-      ),
-    )
+    let s = start e in record {
+      number_value = (refl, omega (arith, m.emit_map-count.ensures.value, e.emit_colors-at.ensures.value, sum s));
+      raw_width_value = omega (arith, r.raw_width-before.ensures.0, ap raw_width_of (taken_colors e), c.map_raw_width.ensures.0, raw s);
+      out_after = m.emit_map-count.ensures.out_after
+          ∙ rw (e.emit_colors-at.ensures.out_after, e.emit_colors-at.ensures.value, parts s) (written_append s.args.out.now 0 (colors s) (map s));
+    }
 
-pub emit-list-spec : {M : Type 1} → statement M
-emit-list-spec =
+pub emit_list_spec : {M : Type 1} → statement M
+emit_list_spec =
     tie.close
     (tie.spec
     emit-colors-requires

@@ -15,7 +15,7 @@ use Rattle.listing.proofs.list.Statement.{statement}
 use Rattle.listing.proofs.list.Tie as tie
 
 -- past the first return
-module _ (c : tie.Else1) where
+module _ (c : tie.Else-number-ne0) where
   abbrev start : tie.Start
   start = c.before.before.before.before.before.before
 
@@ -23,7 +23,7 @@ module _ (c : tie.Else1) where
   palette = let a = start.args in palette_of a.colors a.n a.transposed a.map.now a.flags.now
 
   zero : refusal start.args.width start.args.height start.args.bd (length start.args.cache.now) palette ≡ 0
-  zero = sym c.before.fault.ensures ∙ c.if1.false
+  zero = sym c.before.fault-number.ensures ∙ c.if-number-ne0.false
 
   accepted : let a = start.args in Accepted a.width a.height a.bd a.cache.now palette
   accepted = accepted_of_zero _ _ _ _ _ zero
@@ -35,43 +35,43 @@ module _ (c : tie.Else1) where
       let given = length_given a.colors eight a.bd a.n accepted.colors in
       omega (arith, (facts _ _ _ _ _ accepted).few, given)
 
-fault-requires : tie.Need-fault-requires
+fault-requires : tie.Need-fault-number-requires
 fault-requires c κs = search rules
 
 refused-requires : tie.Need-refused-requires
 refused-requires c κs = search rules
 
-returns : tie.Need-returns
+returns : tie.Need-returns-then-number-ne0
 returns c =
-    rw c.refused.ensures (faulty _ _ _ _ _ _ _ c.before.before.fault.ensures c.before.if1.true)
+    rw c.refused.ensures (faulty _ _ _ _ _ _ _ c.before.before.fault-number.ensures c.before.if-number-ne0.true)
 
-list-aside-requires : tie.Need-list-aside-requires
-list-aside-requires c κs = (accepted c.before.before, few c.before.before)
+list-aside-requires : tie.Need-list_aside-requires
+list-aside-requires c κs = record { accepted = accepted c.before.before; n_bound = few c.before.before }
 
-same_length : tie.Need-same-length
+same_length : tie.Need-shape_of-words-then-words-lt4234
 same_length c = search rules
 
-returns-2 : tie.Need-returns-2
+returns-2 : tie.Need-returns-then-words-lt4234
 returns-2 c = search rules
 
-emit-list-requires : tie.Need-emit-list-requires
+emit-list-requires : tie.Need-emit_list-requires
 emit-list-requires c κs =
     let d = c.before.before in
     let h : 4234 ≤ length (start d).args.words.now = omega arith in
-    (accepted d, (few d, h))
+    record { accepted = accepted d; n_bound = (few d, h) }
 
-same-length-2 : tie.Need-same-length-2
+same-length-2 : tie.Need-shape_of-words
 same-length-2 c = search rules
 
-returns-3 : tie.Need-returns-3
+returns-3 : tie.Need-returns
 returns-3 c =
     let d = c.before.before.before.before.before in
-    let l = c.before.before.emit-list in
-    made_there _ _ _ _ _ _ (zero d) (omega (arith, list_few _ _ _ _ _ (accepted d), c.before.before.before.before.if2.false)) _ l.result
-    l.ensures.1.1 l.ensures.0.0 l.ensures.0.1 l.ensures.1.0
+    let l = c.before.before.emit_list in
+    made_there _ _ _ _ _ _ (zero d) (omega (arith, list_few _ _ _ _ _ (accepted d), c.before.before.before.before.if-words-lt4234.false)) _ l.result
+    l.ensures.out_after l.ensures.number_value.0 l.ensures.number_value.1 l.ensures.raw_width_value
 
-pub list-spec : {M : Type 1} → statement M
-list-spec =
+pub list_spec : {M : Type 1} → statement M
+list_spec =
     tie.close
     (tie.spec
     fault-requires

@@ -14,7 +14,7 @@ use Rattle.listing.proofs.list_by.Statement.{statement}
 use Rattle.listing.proofs.list_by.Tie as tie
 
 -- the list stands aside
-module _ (c : tie.After-emit-list) where
+module _ (c : tie.After-emit_list-listed) where
   abbrev start : tie.Start
   start = c.before.before.before.before.before.before.before
 
@@ -27,42 +27,42 @@ module _ (c : tie.After-emit-list) where
   bounded = list_few _ _ _ _ _ start.pre.0
 
   abbrev made : List ℕ
-  made = c.emit-list.new.1.1.1.1.1.1.1.1.1.0
+  made = c.emit_list-listed.new.out
 
-  counted : c.emit-list.result.count ≡ length list
-  counted = c.emit-list.ensures.0.1
+  counted : c.emit_list-listed.result.count ≡ length list
+  counted = c.emit_list-listed.ensures.number_value.1
 
-  enough : c.emit-list.result.count ≤ length made
+  enough : c.emit_list-listed.result.count ≤ length made
   enough =
-      let kept = c.emit-list.auto.1.1.1.1.1.1.1.1.1.0 in
+      let kept = c.emit_list-listed.auto.out in
       omega (arith, bounded, start.pre.1.1, counted, kept)
 
-  taken : take c.emit-list.result.count made ≡ list
+  taken : take c.emit_list-listed.result.count made ≡ list
   taken =
-      ap (λ (k : ℕ). take k made) counted ∙ ap (take (length list)) c.emit-list.ensures.1.1
+      ap (λ (k : ℕ). take k made) counted ∙ ap (take (length list)) c.emit_list-listed.ensures.out_after
       ∙ written_take start.args.aside.now list (omega (arith, bounded, start.pre.1.1))
 
-emit-list-requires : tie.Need-emit-list-requires
+emit-list-requires : tie.Need-emit_list-listed-requires
 emit-list-requires c κs = search rules
 
 deliver-requires : tie.Need-deliver-requires
 deliver-requires c κs = enough c.before.before.before.before
 
-same_length : tie.Need-same-length
+same_length : tie.Need-shape_of-aside
 same_length c = search rules
 
-same-length-2 : tie.Need-same-length-2
+same-length-2 : tie.Need-shape_of-words
 same-length-2 c = search rules
 
 returns : tie.Need-returns
 returns c =
     let d = c.before.before in
     let e = d.before.before.before.before.before in
-    let l = e.emit-list in
-    delivered _ _ _ _ _ _ (zero_of_accepted _ _ _ _ _ (start e).requires.0) l.result l.ensures.0.0 (counted e) l.ensures.1.0
-    (take l.result.count (made e)) (taken e) d.deliver.new.1.1.0 d.deliver.result
-    d.deliver.ensures.0 d.deliver.ensures.1
+    let l = e.emit_list-listed in
+    delivered _ _ _ _ _ _ (zero_of_accepted _ _ _ _ _ (start e).requires.accepted) l.result l.ensures.number_value.0 (counted e) l.ensures.raw_width_value
+    (take l.result.count (made e)) (taken e) d.deliver.new.words d.deliver.result
+    d.deliver.ensures.value d.deliver.ensures.words_after
 
-pub list-by-spec : {M : Type 1} → statement M
-list-by-spec =
+pub list_by_spec : {M : Type 1} → statement M
+list_by_spec =
     tie.close (tie.spec emit-list-requires deliver-requires same_length same-length-2 returns)

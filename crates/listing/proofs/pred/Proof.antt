@@ -23,12 +23,12 @@ abbrev fault : tie.Start → ℕ
 fault s = refusal s.args.width s.args.height s.args.bd 0 (palette s)
 
 -- past the first return
-abbrev start : tie.Else1 → tie.Start
+abbrev start : tie.Else-number-ne0 → tie.Start
 start c = c.before.before.before.before.before
 
-module _ (c : tie.Else1) where
+module _ (c : tie.Else-number-ne0) where
   zero : fault (start c) ≡ 0
-  zero = sym c.before.fault.ensures ∙ c.if1.false
+  zero = sym c.before.fault-number.ensures ∙ c.if-number-ne0.false
 
   accepted : Accepted (start c).args.width (start c).args.height (start c).args.bd [] (palette (start c))
   accepted = accepted_of_zero _ _ _ [] _ zero
@@ -54,45 +54,45 @@ module _ (c : tie.Else1) where
       sym (values_first (start c).args.colors (start c).args.map.now (start c).args.n below)
       ∙ ap (λ (l : List ℕ). values_of l (start c).args.map.now) (sym (first_colors_holds (start c).args.colors eight (start c).args.n few))
 
-fault-requires : tie.Need-fault-requires
+fault-requires : tie.Need-fault-number-requires
 fault-requires c κs = search rules
 
-returns : tie.Need-returns
+returns : tie.Need-returns-then-number-ne0
 unfolding pred_number
 returns c =
-    let e = c.before.fault.ensures in
-    record { number = rw (← e) (simp (ne_eqb _ 0 c.if1.true)); values = simp (ne_eqb _ 0 c.if1.true) }
+    let e = c.before.fault-number.ensures in
+    record { number = rw (← e) (simp (ne_eqb _ 0 c.if-number-ne0.true)); values = simp (ne_eqb _ 0 c.if-number-ne0.true) }
 
-returns-2 : tie.Need-returns-2
+returns-2 : tie.Need-returns-then-values-map
 unfolding pred_number
 returns-2 c =
     let s = start c.before in
     record {
-      number = rw (zero c.before) (simp (lt-leb (s.args.width * s.args.height) (length s.args.values.now) (omega (arith, c.if2.true, (known c.before).map_length))));
+      number = rw (zero c.before) (simp (lt-leb (s.args.width * s.args.height) (length s.args.values.now) (omega (arith, c.if-values-map.true, (known c.before).map_length))));
       values = refl;
     }
 
-fill-values-requires : tie.Need-fill-values-requires
+fill-values-requires : tie.Need-fill_values-requires
 fill-values-requires c κs =
     let e = c.before.before in
     let s = start e in
-    let h : length s.args.map.now ≤ length s.args.values.now = c.before.if2.false in
-    (h, λ i g. omega (arith, below e i g, few e))
+    let h : length s.args.map.now ≤ length s.args.values.now = c.before.if-values-map.false in
+    record { map_in_bounds = h; by_index = λ i g. omega (arith, below e i g, few e) }
 
-same_length : tie.Need-same-length
+same_length : tie.Need-shape_of-values
 same_length c = search rules
 
-returns-3 : tie.Need-returns-3
+returns-3 : tie.Need-returns
 unfolding pred_number
 returns-3 c =
     let e = c.before.before.before.before.before in
     let s = start e in
     let m = (known e).map_length in
     record {
-      number = rw (zero e) (simp (le-leb (s.args.width * s.args.height) (length s.args.values.now) (omega (arith, c.before.before.before.before.if2.false, m))));
-      values = c.before.before.fill-values.ensures ∙ rw (same e, m) refl;
+      number = rw (zero e) (simp (le-leb (s.args.width * s.args.height) (length s.args.values.now) (omega (arith, c.before.before.before.before.if-values-map.false, m))));
+      values = c.before.before.fill_values.ensures ∙ rw (same e, m) refl;
     }
 
-pub pred-spec : {M : Type 1} → statement M
-pred-spec =
+pub pred_spec : {M : Type 1} → statement M
+pred_spec =
     tie.close (tie.spec fault-requires returns returns-2 fill-values-requires same_length returns-3)

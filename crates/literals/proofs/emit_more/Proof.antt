@@ -11,7 +11,7 @@ use Rattle.literals.proofs.emit_more.Statement.{statement}
 use Rattle.literals.proofs.emit_more.Tie as tie
 
 room : (s : tie.Start) → s.args.n ≤ length s.args.colors
-room s = eight _ s.args.colors _ s.well-formed.0 s.requires.0.0
+room s = eight _ s.args.colors _ s.well-formed.0 s.requires.n_bound.0
 
 abbrev more : tie.Start → List ℕ
 more s = more_of s.args.colors s.args.n s.args.bd
@@ -19,58 +19,58 @@ more s = more_of s.args.colors s.args.n s.args.bd
 abbrev steps : tie.Start → ℕ → List ℕ
 steps s b = steps_from s.args.colors s.args.n s.args.bd b 0
 
-words : (c : tie.After-step-bits) →
-    more c.before.before.before ≡ bypass 2 (c.step-bits.result - (c.before.before.before.args.bd - 3)) ∷ steps c.before.before.before c.step-bits.result
+words : (c : tie.After-step_bits-b) →
+    more c.before.before.before ≡ bypass 2 (c.step_bits-b.result - (c.before.before.before.args.bd - 3)) ∷ steps c.before.before.before c.step_bits-b.result
 words c =
     let s = c.before.before.before in
-    let b = c.step-bits in
+    let b = c.step_bits-b in
     bits_word s.args.n s.args.colors (room s) s.args.bd b.result b.ensures.0 (omega arith)
 
-returns : tie.Need-returns
+returns : tie.Need-returns-then-n-lt2
 unfolding written
 returns c =
     let s = c.before.before in
     let none = no_more s.args.n s.args.colors (room s) s.args.bd (omega arith) in
-    (rw none (omega arith), rw none refl)
+    record { value = rw none (omega arith); out_after = rw none refl }
 
-step-bits-requires : tie.Need-step-bits-requires
-step-bits-requires c κs = let p = c.before.before.requires.0 in (omega arith, p.0, p.1, p.3)
+step-bits-requires : tie.Need-step_bits-b-requires
+step-bits-requires c κs = let p = c.before.before.requires.n_bound in (omega arith, p.0, p.1, p.3)
 
-sub-put-bypass : tie.Need-overflow-sub-put-bypass
+sub-put-bypass : tie.Need-overflow_sub-bd
 sub-put-bypass c = search rules
 
-sub-put-bypass-2 : tie.Need-overflow-sub-put-bypass-2
-sub-put-bypass-2 c = c.before.step-bits.ensures.1
+sub-put-bypass-2 : tie.Need-overflow_sub-b
+sub-put-bypass-2 c = c.before.step_bits-b.ensures.1
 
-put-bypass-requires : tie.Need-put-bypass-requires
+put-bypass-requires : tie.Need-put_bypass-next-requires
 put-bypass-requires c κs =
     let s = c.before.before.before.before in
-    let space : s.args.at < length s.args.out.now = omega (arith, s.requires.1, ap length (words c.before)) in
+    let space : s.args.at < length s.args.out.now = omega (arith, s.requires.colors_in_bounds, ap length (words c.before)) in
     (omega arith, omega arith, space)
 
-emit-steps-requires : tie.Need-emit-steps-requires
+emit-steps-requires : tie.Need-emit_steps-requires
 emit-steps-requires c κs =
-    let put = c.before.before.before.put-bypass in
+    let put = c.before.before.before.put_bypass-next in
     let b = c.before.before.before.before.before in
     let s = b.before.before.before in
-    let kept : length put.new.0 ≡ length s.args.out.now = put.auto.0 in
-    let space : put.result + length (steps s b.step-bits.result) ≤ length put.new.0 =
-    omega (arith, put.ensures.0, ap length (words b), s.requires.1, kept) in
-    ((s.requires.0.0, s.requires.0.2, b.step-bits.ensures.2, s.requires.0.3), space)
+    let kept : length put.new.out ≡ length s.args.out.now = put.auto.out in
+    let space : put.result + length (steps s b.step_bits-b.result) ≤ length put.new.out =
+    omega (arith, put.ensures.0, ap length (words b), s.requires.colors_in_bounds, kept) in
+    record { n_bound = (s.requires.n_bound.0, s.requires.n_bound.2, b.step_bits-b.ensures.2, s.requires.n_bound.3); colors_in_bounds = space }
 
-same_length : tie.Need-same-length
+same_length : tie.Need-shape_of-out
 same_length c = search rules
 
-returns-2 : tie.Need-returns-2
+returns-2 : tie.Need-returns
 unfolding written
 returns-2 c =
-    let rest = c.before.before.emit-steps in
-    let put = c.before.before.before.before.before.before.put-bypass in
+    let rest = c.before.before.emit_steps in
+    let put = c.before.before.before.before.before.before.put_bypass-next in
     let all = words c.before.before.before.before.before.before.before.before in
-    rw all (omega (arith, rest.ensures.0, put.ensures.0), rest.ensures.1 ∙ rw (put.ensures.1, put.ensures.0) refl)
+    rw all (record { value = omega (arith, rest.ensures.value, put.ensures.0); out_after = rest.ensures.out_after ∙ rw (put.ensures.1, put.ensures.0) refl })
 
-pub emit-more-spec : {M : Type 1} → statement M
-emit-more-spec =
+pub emit_more_spec : {M : Type 1} → statement M
+emit_more_spec =
     tie.close
     (tie.spec
     returns

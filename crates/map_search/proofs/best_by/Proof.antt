@@ -12,40 +12,40 @@ use Rattle.map_search.proofs.best_by.Tie as tie
 fit : (s : tie.Start) → Keyed (around_in s.args.map.now s.args.s s.args.l 0) s.args.n s.args.m
 fit s =
     let a = s.args in
-    rw s.requires.1.4
-    (key_cell a.map.now a.s a.l 0 a.n s.requires.1.3 (omega (arith, s.requires.1.0)) s.requires.1.1)
+    rw s.requires.le_n.4
+    (key_cell a.map.now a.s a.l 0 a.n s.requires.le_n.3 (omega (arith, s.requires.le_n.0)) s.requires.le_n.1)
 
-rates-requires : tie.Need-rates-requires
+rates-requires : tie.Need-rates-rates-requires
 rates-requires c κs =
     let s = c.before.before.before in
     let a = s.args in
-    (s.requires.1.0, s.requires.1.1, rw (fit s).ctx (context_small a.map.now a.s a.l 0), s.requires.1.2)
+    (s.requires.le_n.0, s.requires.le_n.1, rw (fit s).ctx (context_small a.map.now a.s a.l 0), s.requires.le_n.2)
 
-const-dists-requires : tie.Need-const-dists-requires
+const-dists-requires : tie.Need-const_dists-dists-requires
 const-dists-requires c κs = search rules
 
-row-cost-requires : tie.Need-row-cost-requires
+row-cost-requires : tie.Need-row_cost-row-requires
 row-cost-requires c κs = search rules
 
-constant-requires : tie.Need-constant-requires
+constant-requires : tie.Need-constant-zero-requires
 constant-requires c κs =
     let s = c.before.before.before.before.before.before.before.before in
-    (omega arith, (fit s).ranges.0, s.requires.1.5)
+    (omega arith, (fit s).ranges.0, s.requires.le_n.5)
 
-row-cost-requires-2 : tie.Need-row-cost-requires-2
+row-cost-requires-2 : tie.Need-row_cost-copy-requires
 row-cost-requires-2 c κs =
     let s = c.before.before.before.before.before.before.before.before.before in
-    (s.requires.0.3, omega arith, s.requires.1.2)
+    (s.requires.sound.3, omega arith, s.requires.le_n.2)
 
-first-of-requires : tie.Need-first-of-requires
+first-of-requires : tie.Need-first_of-from-requires
 first-of-requires c κs =
     let s = c.before.before.before.before.before.before.before.before.before.before in
-    (s.requires.0.0, s.requires.0.1, s.requires.0.2, below_8 s.args.map.now s.args.n s.requires.1.3 s.requires.1.1)
+    (s.requires.sound.0, s.requires.sound.1, s.requires.sound.2, below_8 s.args.map.now s.args.n s.requires.le_n.3 s.requires.le_n.1)
 
-best-const-requires : tie.Need-best-const-requires
+best-const-requires : tie.Need-best_const-requires
 best-const-requires c κs =
     let s = c.before.before.before.before.before.before.before.before.before.before.before.before.before in
-    (s.requires.1.1, (fit s).ranges.0, s.requires.1.5)
+    (s.requires.le_n.1, (fit s).ranges.0, s.requires.le_n.5)
 
 returns : tie.Need-returns
 returns c =
@@ -53,21 +53,21 @@ returns c =
     let dists = zero.before.before.before.before in
     let s = dists.before.before.before.before.before in
     let a = s.args in
-    c.best-const.ensures
+    c.best_const.ensures
     ∙ rw (
-      c.before.before.before.first_of.ensures,
-      c.before.before.before.before.row-cost2.ensures,
-      zero.constant.ensures,
-      zero.before.before.before.row-cost.ensures,
-      dists.const-dists.ensures,
-      dists.before.rates.ensures,
-      s.requires.1.4,
+      c.before.before.before.first_of-from.ensures,
+      c.before.before.before.before.row_cost-copy.ensures,
+      zero.constant-zero.ensures,
+      zero.before.before.before.row_cost-row.ensures,
+      dists.const_dists-dists.ensures,
+      dists.before.rates-rates.ensures,
+      s.requires.le_n.4,
     )
-    (best_same a.src.now a.costs.now a.colors.now a.n a.lambda a.s (omega (arith, s.requires.1.0)) s.requires.1.1
-    a.map.now a.l a.ctx s.requires.1.3)
+    (best_same a.src.now a.costs.now a.colors.now a.n a.lambda a.s (omega (arith, s.requires.le_n.0)) s.requires.le_n.1
+    a.map.now a.l a.ctx s.requires.le_n.3)
 
-pub best-by-spec : {M : Type 1} → statement M
-best-by-spec =
+pub best_by_spec : {M : Type 1} → statement M
+best_by_spec =
     tie.close
     (tie.spec
     rates-requires

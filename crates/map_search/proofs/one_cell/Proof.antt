@@ -13,85 +13,82 @@ use Rattle.map_search.proofs.one_cell.Statement.{statement}
 use Rattle.map_search.proofs.one_cell.Tie as tie
 
 inside : (s : tie.Start) → place_at s.args.s s.args.l s.args.a < length s.args.src.now
-inside s = s.requires.0.0.inside s.args.l s.args.a s.requires.0.2 s.requires.0.3
+inside s = s.requires.sound.0.inside s.args.l s.args.a s.requires.sound.2 s.requires.sound.3
 
-fit : (c : tie.After-key-cell) → let s = c.before.before.before.before.before.before in
-    Keyed (around_in s.args.map.now s.args.s s.args.l s.args.a) s.args.n c.key-cell.result
+fit : (c : tie.After-key_cell-m) → let s = c.before.before.before.before.before.before in
+    Keyed (around_in s.args.map.now s.args.s s.args.l s.args.a) s.args.n c.key_cell-m.result
 fit c =
     let s = c.before.before.before.before.before.before in
     let a = s.args in
-    rw c.key-cell.ensures
-    (key_cell a.map.now a.s a.l a.a a.n s.requires.1.3 (omega (arith, s.requires.1.0)) s.requires.1.1)
+    rw c.key_cell-m.ensures
+    (key_cell a.map.now a.s a.l a.a a.n s.requires.le_n.3 (omega (arith, s.requires.le_n.0)) s.requires.le_n.1)
 
-ctx_small : (c : tie.After-key-cell) → c.key-cell.result.ctx < 5
+ctx_small : (c : tie.After-key_cell-m) → c.key_cell-m.result.ctx < 5
 ctx_small c =
     let a = c.before.before.before.before.before.before.args in
     rw (fit c).ctx (context_small a.map.now a.s a.l a.a)
 
-place-requires : tie.Need-place-requires
-place-requires c κs = omega (arith, inside c.before.before.before, c.before.before.before.requires.0.0.small)
+place-requires : tie.Need-place-p-requires
+place-requires c κs = omega (arith, inside c.before.before.before, c.before.before.before.requires.sound.0.small)
 
-mul-x : tie.Need-overflow-mul-x
-mul-x c = omega (arith, c.place.ensures, inside c.before.before.before.before, c.before.before.before.before.requires.0.0.small)
+mul-x : tie.Need-offset_bounds-src-p
+mul-x c = omega (arith, c.place-p.ensures, inside c.before.before.before.before, c.before.before.before.before.requires.sound.0.small)
 
-shared-slice-read-x : tie.Need-shared-slice-read-x
-shared-slice-read-x c = omega (arith, c.before.place.ensures, inside c.before.before.before.before.before)
+shared-slice-read-x : tie.Need-bounds-src-p
+shared-slice-read-x c = omega (arith, c.before.place-p.ensures, inside c.before.before.before.before.before)
 
-key-cell-requires : tie.Need-key-cell-requires
+key-cell-requires : tie.Need-key_cell-m-requires
 key-cell-requires c κs =
     let s = c.before.before.before.before.before in (
-      cell_inside s.requires.0.0 s.requires.0.1 s.args.l s.args.a s.requires.0.2 s.requires.0.3,
-      below_8 s.args.map.now s.args.n s.requires.1.3 s.requires.1.1,
-      s.requires.1.5.code,
+      cell_inside s.requires.sound.0 s.requires.sound.1 s.args.l s.args.a s.requires.sound.2 s.requires.sound.3,
+      below_8 s.args.map.now s.args.n s.requires.le_n.3 s.requires.le_n.1,
+      s.requires.le_n.5.code,
     )
 
-add-if1 : tie.Need-overflow-add-if1
+add-if1 : tie.Need-overflow_add-l
 add-if1 c =
     let s = c.before.before.before.before.before.before in
-    omega (arith, s.requires.0.2, s.requires.0.3, s.requires.0.0.short, s.requires.0.0.few)
+    omega (arith, s.requires.sound.2, s.requires.sound.3, s.requires.sound.0.short, s.requires.sound.0.few)
 
-rates-requires : tie.Need-rates-requires
+rates-requires : tie.Need-rates-rates-requires
 rates-requires c κs =
     let s = c.before.before.before.before.before.before.before in
-    (s.requires.1.0, s.requires.1.1, ctx_small c.before, s.requires.1.2)
+    (s.requires.le_n.0, s.requires.le_n.1, ctx_small c.before, s.requires.le_n.2)
 
-choose-cell-requires : tie.Need-choose-cell-requires
+choose-cell-requires : tie.Need-choose_cell-requires
 choose-cell-requires c κs =
     let s = c.before.before.before.before.before.before.before.before.before in
-    (s.requires.1.5.order, (fit c.before.before.before).fits, omega (arith, s.requires.1.0), s.requires.1.1)
+    (s.requires.le_n.5.order, (fit c.before.before.before).fits, omega (arith, s.requires.le_n.0), s.requires.le_n.1)
 
-returns : tie.Need-returns
+returns : tie.Need-returns-then-l-a-eq0
 unfolding cell_at
 returns c =
     let key = c.before.before.before.before in
     let a = c.before.before.before.before.before.before.before.before.before.before.args in
-    c.choose-cell.ensures
+    c.choose_cell.ensures
     ∙ rw (
-      c.before.before.rates.ensures,
-      key.before.before.place.ensures,
+      c.before.before.rates-rates.ensures,
+      key.before.before.place-p.ensures,
       (fit key).order,
       (fit key).ctx,
-      eq-eqb (a.l + a.a) 0 c.before.before.before.if1.true,
+      eq-eqb (a.l + a.a) 0 c.before.before.before.if-l-a-eq0.true,
     )
     refl
 
-quick-cell-requires : tie.Need-quick-cell-requires
+quick-cell-requires : tie.Need-quick_cell-requires
 quick-cell-requires c κs =
-    let s = c.before.before.before.before.before.before.before in (
-      (s.requires.1.5, (fit c.before).fits, ctx_small c.before),
-      (s.requires.1.0, s.requires.1.1, s.requires.1.2, s.requires.1.4, s.requires.1.6),
-    )
+    let s = c.before.before.before.before.before.before.before in record { tables = (s.requires.le_n.5, (fit c.before).fits, ctx_small c.before); le_n = (s.requires.le_n.0, s.requires.le_n.1, s.requires.le_n.2, s.requires.le_n.4, s.requires.le_n.6) }
 
-returns-2 : tie.Need-returns-2
+returns-2 : tie.Need-returns
 unfolding cell_at
 returns-2 c =
     let key = c.before.before in
     let a = c.before.before.before.before.before.before.before.before.args in
-    c.quick-cell.ensures
-    ∙ rw (key.before.before.place.ensures, (fit key).order, (fit key).ctx, ne_eqb (a.l + a.a) 0 c.before.if1.false) refl
+    c.quick_cell.ensures
+    ∙ rw (key.before.before.place-p.ensures, (fit key).order, (fit key).ctx, ne_eqb (a.l + a.a) 0 c.before.if-l-a-eq0.false) refl
 
-pub one-cell-spec : {M : Type 1} → statement M
-one-cell-spec =
+pub one_cell_spec : {M : Type 1} → statement M
+one_cell_spec =
     tie.close
     (tie.spec
     place-requires

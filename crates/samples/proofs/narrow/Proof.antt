@@ -1,4 +1,3 @@
--- `samples::narrow` meets its contract. Assumes nothing.
 use mathlib.Core.Path.{◌≡◌, refl, sym, ap, ◌∙◌, subst}
 use mathlib.Core.Bool.{false, not}
 use Prim.Native.Nat.{ℕ, ◌+◌, ◌*◌, ◌/◌, ◌%◌, ◌^◌, ◌≤◌, ◌<◌}
@@ -15,6 +14,7 @@ use Rattle.samples.proofs.Signs.{narrow_sign, sign_32}
 use Rattle.samples.proofs.narrow.Statement.{statement}
 use Rattle.samples.proofs.narrow.Tie as tie
 
+-- `samples::narrow` meets its contract. Assumes nothing.
 module _ (x : Float) (f : T (fits binary64 x)) (z : is_nan x ≡ false) where
   top : to_bits binary64 x % 9223372036854775808 ≤ 0x7ff0_0000_0000_0000
   top =
@@ -42,40 +42,40 @@ no_nan b r h k =
 held : (c : tie.Start) → T (fits binary64 c.args.x)
 held c = subst T (sym c.well-formed.0.1) tt
 
-float-to-bits-b : tie.Need-float-to-bits-b
-float-to-bits-b c = subst (λ z. T (not z)) (sym (number c.before.args.x c.if1.true)) tt
+float-to-bits-b : tie.Need-float_to_bits-b
+float-to-bits-b c = subst (λ z. T (not z)) (sym (number c.before.args.x c.if-x.true)) tt
 
-narrow-bits-requires : tie.Need-narrow-bits-requires
-narrow-bits-requires c κs = let x = c.before.args.x in top x (held c.before) (number x c.if1.true)
+narrow-bits-requires : tie.Need-narrow_bits-r-requires
+narrow-bits-requires c κs = let x = c.before.args.x in top x (held c.before) (number x c.if-x.true)
 
-wide_at : (c : tie.After-narrow-bits) → to_bits binary64 c.before.before.args.x < 2 ^ 64
+wide_at : (c : tie.After-narrow_bits-r) → to_bits binary64 c.before.before.args.x < 2 ^ 64
 wide_at c = to_bits-lt binary64 c.before.before.args.x (held c.before.before)
 
-mul-result : tie.Need-overflow-mul-result
+mul-result : tie.Need-overflow_mul-result
 mul-result c = omega (arith, wide_at c)
 
-add-result : tie.Need-overflow-add-result
-add-result c = omega (arith, wide_at c, c.narrow-bits.ensures.0)
+add-result : tie.Need-overflow_add-result
+add-result c = omega (arith, wide_at c, c.narrow_bits-r.ensures.0)
 
-cast-result : tie.Need-overflow-cast-result
-cast-result c = omega (arith, wide_at c, c.narrow-bits.ensures.0)
+cast-result : tie.Need-overflow_cast-result
+cast-result c = omega (arith, wide_at c, c.narrow_bits-r.ensures.0)
 
-float-from-bits-result : tie.Need-float-from-bits-result
+float-from-bits-result : tie.Need-float_from_bits-result
 float-from-bits-result c =
-    no_nan (to_bits binary64 c.before.before.args.x) c.narrow-bits.result (wide_at c) c.narrow-bits.ensures.0
+    no_nan (to_bits binary64 c.before.before.args.x) c.narrow_bits-r.result (wide_at c) c.narrow_bits-r.ensures.0
 
-returns : tie.Need-returns
+returns : tie.Need-returns-then-x
 returns c =
     let s = c.before.before in
-    let r = c.narrow-bits in
-    signed s.args.x (held s) (number s.args.x c.before.if1.true) r.result r.ensures.0 r.ensures.1
+    let r = c.narrow_bits-r in
+    signed s.args.x (held s) (number s.args.x c.before.if-x.true) r.result r.ensures.0 r.ensures.1
 
-returns-2 : tie.Need-returns-2
+returns-2 : tie.Need-returns
 unfolding of_bits div
-returns-2 c = rw (none c.before.args.x c.if1.false) refl
+returns-2 c = rw (none c.before.args.x c.if-x.false) refl
 
-pub narrow-spec : {M : Type 1} → statement M
-narrow-spec =
+pub narrow_spec : {M : Type 1} → statement M
+narrow_spec =
     tie.close
     (tie.spec
     float-to-bits-b

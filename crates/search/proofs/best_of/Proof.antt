@@ -15,11 +15,11 @@ use Rattle.search.proofs.Walk.{walking_goes_on, fewer_left}
 use Rattle.search.proofs.best_of.Statement.{statement}
 use Rattle.search.proofs.best_of.Tie as tie
 
-abbrev invariant-loop : tie.invariant-loop
+abbrev invariant-loop : tie.invariant-loop-k
 invariant-loop samples costs b h table cuts map₀ flags₀ orders codes lbs left₀ best₀ k₀ map flags left best k =
     (length map ≡ length map₀) × (length flags ≡ length flags₀) × Walking samples costs b h lbs left best k map flags
 
-abbrev decreases-loop : tie.decreases-loop
+abbrev decreases-loop : tie.decreases-loop-k
 decreases-loop samples costs b h table cuts map₀ flags₀ orders codes lbs left₀ best₀ k₀ map flags left best k = length (opened left)
 
 over_zero : div binary32 (of_bits binary32 1065353216) (of_bits binary32 0) ≡ inf false
@@ -32,122 +32,122 @@ none_with total =
     let zero = of_bits binary32 0 in
     record { total = total; n = 0; colors = replicate 8 0; transposed = false; head = zero; map_bits = zero }
 
-abbrev start : tie.At-loop invariant-loop decreases-loop → tie.Start invariant-loop decreases-loop
+abbrev start : tie.At-loop-k invariant-loop decreases-loop → tie.Start invariant-loop decreases-loop
 start l = l.before.before.before.before.before.before.before.before.before.before
 
-abbrev lbs : tie.At-loop invariant-loop decreases-loop → List Float
-lbs l = l.before.before.before.before.before.lbs-of.result
+abbrev lbs : tie.At-loop-k invariant-loop decreases-loop → List Float
+lbs l = l.before.before.before.before.before.lbs_of-lbs.result
 
-bounds : (l : tie.At-loop invariant-loop decreases-loop) → let a = (start l).args in Bounds a.costs.now a.b a.h (lbs l)
-bounds l = l.before.before.before.before.before.lbs-of.ensures
+bounds : (l : tie.At-loop-k invariant-loop decreases-loop) → let a = (start l).args in Bounds a.costs.now a.b a.h (lbs l)
+bounds l = l.before.before.before.before.before.lbs_of-lbs.ensures
 
 -- a turn that tries its size, and the start of that turn
-abbrev tries : tie.After-next-size2 invariant-loop decreases-loop → tie.Else1 invariant-loop decreases-loop
+abbrev tries : tie.After-next_size-k-in-loop-k invariant-loop decreases-loop → tie.Else-lbs-k invariant-loop decreases-loop
 tries c = c.before.before.before.before.before.before.before.before.before.before.before
 
-abbrev turn : tie.Else1 invariant-loop decreases-loop → tie.In-loop invariant-loop decreases-loop
+abbrev turn : tie.Else-lbs-k invariant-loop decreases-loop → tie.In-loop-k invariant-loop decreases-loop
 turn c = c.before.before
 
 -- the size in turn is one that the block has
-known : (c : tie.In-loop invariant-loop decreases-loop) → SizeTo (start c.before).args.h.n c.before.loop.k
+known : (c : tie.In-loop-k invariant-loop decreases-loop) → SizeTo (start c.before).args.h.n c.before.loop-k.k
 known c =
     let a = (start c.before).args in
-    size_known a.samples.now a.costs.now a.b a.h (lbs c.before) (bounds c.before) c.before.loop.invariant.2
-    c.loop-test.true
+    size_known a.samples.now a.costs.now a.b a.h (lbs c.before) (bounds c.before) c.before.loop-k.invariant.2
+    c.loop-k-test.true
 
-lbs-of-requires : tie.Need-lbs-of-requires invariant-loop decreases-loop
+lbs-of-requires : tie.Need-lbs_of-lbs-requires invariant-loop decreases-loop
 lbs-of-requires c κs = c.before.before.before.before.requires.0
 
-open-sizes-requires : tie.Need-open-sizes-requires invariant-loop decreases-loop
+open-sizes-requires : tie.Need-open_sizes-left-requires invariant-loop decreases-loop
 open-sizes-requires c κs = search rules
 
-next-size-requires : tie.Need-next-size-requires invariant-loop decreases-loop
+next-size-requires : tie.Need-next_size-k-requires invariant-loop decreases-loop
 next-size-requires c κs = search rules
 
-loop-holds : tie.Need-loop-init invariant-loop decreases-loop
+loop-holds : tie.Need-loop-k-init invariant-loop decreases-loop
 loop-holds c =
     let a = c.before.before.before.before.before.before.before.before.before.args in
-    let lbs-are = c.before.before.before.before.lbs-of.ensures in
-    let all-open = c.before.before.before.open-sizes.ensures in
+    let lbs-are = c.before.before.before.before.lbs_of-lbs.ensures in
+    let all-open = c.before.before.before.open_sizes-left.ensures in
     let none_is = ap none_with over_zero in (
       refl,
       refl,
-      walking_starts a.samples.now a.costs.now a.b a.h _ lbs-are _ _ _ _ _ all-open none_is c.next-size.ensures,
+      walking_starts a.samples.now a.costs.now a.b a.h _ lbs-are _ _ _ _ _ all-open none_is c.next_size-k.ensures,
     )
 
-mul-if1 : tie.Need-overflow-mul-if1 invariant-loop decreases-loop
+mul-if1 : tie.Need-offset_bounds-lbs-k invariant-loop decreases-loop
 mul-if1 c = record { fits = lt_of_le_of_lt (mul-le-mul (known c).1 (le_refl 4)) (lit< tt) }
 
-array-read-if1 : tie.Need-array-read-if1 invariant-loop decreases-loop
+array-read-if1 : tie.Need-bounds-lbs-k invariant-loop decreases-loop
 array-read-if1 c = lt_of_le_of_lt (known c).1 (lit< tt)
 
-same_length : tie.Need-same-length invariant-loop decreases-loop
-same_length c = c.before.before.before.loop.invariant.0
+same_length : tie.Need-shape_of-map-then-lbs-k invariant-loop decreases-loop
+same_length c = c.before.before.before.loop-k.invariant.0
 
-same-length-2 : tie.Need-same-length-2 invariant-loop decreases-loop
-same-length-2 c = c.before.before.before.loop.invariant.1
+same-length-2 : tie.Need-shape_of-flags-then-lbs-k invariant-loop decreases-loop
+same-length-2 c = c.before.before.before.loop-k.invariant.1
 
-returns : tie.Need-returns invariant-loop decreases-loop
+returns : tie.Need-returns-then-lbs-k invariant-loop decreases-loop
 returns c =
     let l = c.before.before.before in
     let a = (start l).args in
-    walking_stops a.samples.now a.costs.now a.b a.h (lbs l) (bounds l) l.loop.invariant.2
-    c.before.before.loop-test.true c.if1.true
+    walking_stops a.samples.now a.costs.now a.b a.h (lbs l) (bounds l) l.loop-k.invariant.2
+    c.before.before.loop-k-test.true c.if-lbs-k.true
 
-size-of-requires : tie.Need-size-of-requires invariant-loop decreases-loop
-size-of-requires c κs = ((start (turn c).before).pre.0, known (turn c))
+size-of-requires : tie.Need-size_of-z-requires invariant-loop decreases-loop
+size-of-requires c κs = record { known = (start (turn c).before).requires.0; le_k = known (turn c) }
 
-try-size-requires : tie.Need-try-size-requires invariant-loop decreases-loop
+try-size-requires : tie.Need-try_size-best-requires invariant-loop decreases-loop
 try-size-requires c κs =
     let t = turn c.before.before.before in
-    let lengths = t.before.loop.inv in
+    let lengths = t.before.loop-k.invariant in
     let size = known t in
     let is = c.before.before.type_size.ensures in
-    (still_passed _ _ (start t.before).pre.1 lengths.0 lengths.1, rw is size.0, rw is size.1, (start t.before).pre.2)
+    (still_passed _ _ (start t.before).requires.1 lengths.0 lengths.1, rw is size.0, rw is size.1, (start t.before).requires.2)
 
-array-write-left : tie.Need-array-write-left invariant-loop decreases-loop
+array-write-left : tie.Need-bounds-left-k invariant-loop decreases-loop
 array-write-left c =
     let t = turn c.before.before.before.before.before.before.before.before in
     lt_of_le_of_lt (known t).1 (lit< tt)
 
-next-size-requires-2 : tie.Need-next-size-requires-2 invariant-loop decreases-loop
+next-size-requires-2 : tie.Need-next_size-k-requires-in-loop-k invariant-loop decreases-loop
 next-size-requires-2 c κs = search rules
 
-loop-less : tie.Need-loop-smaller invariant-loop decreases-loop
+loop-less : tie.Need-loop-k-smaller invariant-loop decreases-loop
 loop-less c =
     let t = turn (tries c) in
     let l = t.before in
     let a = (start l).args in
-    fewer_left a.samples.now a.costs.now a.b a.h (lbs l) (bounds l) l.loop.inv.2 t.loop-test.taken
+    fewer_left a.samples.now a.costs.now a.b a.h (lbs l) (bounds l) l.loop-k.invariant.2 t.loop-k-test.true
 
-loop-again : tie.Need-loop-preserved invariant-loop decreases-loop
+loop-again : tie.Need-loop-k-preserved invariant-loop decreases-loop
 loop-again c =
     let t = turn (tries c) in
     let l = t.before in
     let a = (start l).args in
-    let walk = l.loop.inv.2 in
-    let tried = c.before.before.before.before.before.before.before.try-size in
+    let walk = l.loop-k.invariant.2 in
+    let tried = c.before.before.before.before.before.before.before.try_size-best in
     let size = c.before.before.before.before.before.before.before.before.before.before.type_size.ensures in (
-      tried.auto.1.1.1.1.1.0 ∙ l.loop.inv.0,
-      tried.auto.1.1.1.1.1.1.0 ∙ l.loop.inv.1,
-      walking_goes_on a.samples.now a.costs.now a.b a.h (lbs l) (bounds l) walk t.loop-test.taken
-          (tries c).if1.false _ size _ _ _ _ (tried.ensures walk.standing walk.stands) c.next-size2.ensures,
+      tried.auto.map ∙ l.loop-k.invariant.0,
+      tried.auto.flags ∙ l.loop-k.invariant.1,
+      walking_goes_on a.samples.now a.costs.now a.b a.h (lbs l) (bounds l) walk t.loop-k-test.true
+          (tries c).if-lbs-k.false _ size _ _ _ _ (tried.ensures walk.standing walk.stands) c.next_size-k-in-loop-k.ensures,
     )
 
-same-length-3 : tie.Need-same-length-3 invariant-loop decreases-loop
-same-length-3 c = c.before.loop.invariant.0
+same-length-3 : tie.Need-shape_of-map invariant-loop decreases-loop
+same-length-3 c = c.before.loop-k.invariant.0
 
-same-length-4 : tie.Need-same-length-4 invariant-loop decreases-loop
-same-length-4 c = c.before.loop.invariant.1
+same-length-4 : tie.Need-shape_of-flags invariant-loop decreases-loop
+same-length-4 c = c.before.loop-k.invariant.1
 
-returns-2 : tie.Need-returns-2 invariant-loop decreases-loop
+returns-2 : tie.Need-returns invariant-loop decreases-loop
 returns-2 c =
     let l = c.before in
     let a = (start l).args in
-    walking_ends a.samples.now a.costs.now a.b a.h (lbs l) (bounds l) l.loop.invariant.2 c.loop-test.false
+    walking_ends a.samples.now a.costs.now a.b a.h (lbs l) (bounds l) l.loop-k.invariant.2 c.loop-k-test.false
 
-pub best-of-spec : {M : Type 1} → statement M
-best-of-spec =
+pub best_of_spec : {M : Type 1} → statement M
+best_of_spec =
     tie.close
     (tie.spec
     invariant-loop

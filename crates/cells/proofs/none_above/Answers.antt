@@ -1,0 +1,39 @@
+use Prim.Native.Nat.{ℕ, ◌+◌, ◌-◌, ◌≤◌, ◌<◌}
+use mathlib.Core.Bool.{true}
+use mathlib.Core.Path.{◌≡◌, sym}
+use mathlib.Core.Logic.{⊎_elim}
+use native.Mathlib.Nat.{eq-or-lt_of_le}
+use native.Mathlib.Omega.{arith}
+use lib.ListN.{get_or}
+use lib.Ieee.{nan, le}
+use Rattle.lists.proofs.Counted.{all_below_of, all_below_not}
+use borrow.Author.Rules.{rules}
+use Rattle.cells.proofs.none_above.Goals as goal
+
+pub loop-k-init : goal.loop-k-init
+loop-k-init c = (λ j h. absurd (omega arith), omega arith)
+
+pub loop-k-smaller : goal.loop-k-smaller
+loop-k-smaller c = omega arith
+
+pub loop-k-preserved : goal.loop-k-preserved
+loop-k-preserved c =
+    let l = c.loop-k in
+    let a = c.args in
+    let more : (j : ℕ) → j ≤ l.k → le (get_or a.costs.now (a.at + j) nan) a.most ≡ true =
+    λ j h. ⊎_elim (λ e. rw e c.if-costs-at.true) (λ g. l.invariant.0 j g) (eq-or-lt_of_le h) in
+    (λ j h. more j (omega (arith, h)), omega arith)
+
+pub returns-else-costs-at : goal.returns-else-costs-at
+returns-else-costs-at c =
+    let l = c.loop-k in
+    let a = c.args in
+    sym (all_below_not (λ (k : ℕ). le (get_or a.costs.now (a.at + k) nan) a.most) 40 l.k (omega arith) c.if-costs-at.false)
+
+pub returns : goal.returns
+returns c =
+    let l = c.loop-k in
+    let a = c.args in
+    sym
+    (all_below_of (λ (k : ℕ). le (get_or a.costs.now (a.at + k) nan) a.most) 40
+    (λ j h. l.invariant.0 j (omega (arith, h))))

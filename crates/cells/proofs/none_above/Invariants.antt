@@ -1,0 +1,17 @@
+use Prim.Native.Nat.{ℕ, ◌+◌, ◌-◌, ◌≤◌, ◌<◌}
+use mathlib.Core.Bool.{true}
+use mathlib.Core.Path.{◌≡◌, sym}
+use mathlib.Core.Logic.{⊎_elim}
+use native.Mathlib.Nat.{eq-or-lt_of_le}
+use native.Mathlib.Omega.{arith}
+use lib.ListN.{get_or}
+use lib.Ieee.{nan, le}
+use Rattle.lists.proofs.Counted.{all_below_of, all_below_not}
+use borrow.Author.Rules.{rules}
+use Rattle.cells.proofs.none_above.Given as goal
+
+abbrev pub invariant-loop-k : goal.invariant-loop-k
+invariant-loop-k l = ((j : ℕ) → j < l.k → le (get_or l.costs (l.at + j) nan) l.most ≡ true) × (l.k ≤ 40)
+
+abbrev pub decreases-loop-k : goal.decreases-loop-k
+decreases-loop-k l = 40 - l.k

@@ -1,0 +1,16 @@
+use mathlib.Core.Path.{◌≡◌, refl, ap, ◌∙◌}
+use Prim.Native.Nat.{◌-◌, ◌≤◌, ◌<◌}
+use native.Mathlib.Omega.{arith}
+use Rattle.context.specs.Order.{Around, by_three, order_of}
+use Rattle.rows.specs.Rows.{around_row, Fits}
+use Rattle.color_ctx.specs.Context.{ranks_of, answered}
+use Rattle.color_ctx.proofs.Filling.{row_known, filling, order_turn, ranks_turn, filled}
+use borrow.Author.Rules.{rules}
+use Rattle.color_ctx.proofs.answer.Given as goal
+
+abbrev pub invariant-loop-i : goal.invariant-loop-i
+invariant-loop-i l =
+    (l.i ≤ l.n) × (l.order ≡ filling (order_of (around_row l.row) l.n) l.i) × (l.ranks ≡ filling (ranks_of (around_row l.row) l.n) l.i)
+
+abbrev pub decreases-loop-i : goal.decreases-loop-i
+decreases-loop-i l = l.n - l.i

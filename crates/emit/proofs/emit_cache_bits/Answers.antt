@@ -1,0 +1,148 @@
+use Prim.Native.Nat.{ℕ, ◌≤◌, ◌<◌, ◌+◌, ◌-◌}
+use mathlib.Core.Path.{◌≡◌, refl, sym, ap, ◌∙◌}
+use mathlib.Core.Bool.{true}
+use mathlib.Core.List.{List, [], ◌∷◌}
+use native.Mathlib.Numerals.{add-one}
+use native.Mathlib.Omega.{arith}
+use lib.Dec.{ltb}
+use lib.ListN.{length, take, drop, get_or, drop_of_length-le}
+use lib.Seq.{drop-cons, length-take-le}
+use borrow.Author.Rules.{rules}
+use borrow.Kind.Array.{good_length, e_int}
+use mir.Syntax.{w16}
+use Rattle.lists.specs.Counted.{elem, bit, ascending}
+use Rattle.lists.specs.Written.{written}
+use Rattle.literals.specs.Words.{bypass}
+use Rattle.emit.specs.Colors.{remove, cache_words, untaken}
+use Rattle.emit.specs.declared.Left.{Left}
+use Rattle.emit.proofs.Remove.{ascends_remove, length_remove, elem_shorter}
+use Rattle.emit.proofs.Untaken.{cache_step, cache_none, untaken_none}
+use Rattle.emit.proofs.emit_cache_bits.Goals as goal
+
+abbrev colors_of : Left → List ℕ
+colors_of left = take left.count left.colors
+
+-- what is left to send, written now, gives the whole
+record Inv (cache out₀ : List ℕ) (at : ℕ) (left₀ : Left) (out : List ℕ) (left : Left) (pos i : ℕ) : Type 0 where
+  seen : i ≤ length cache
+  few : left.count ≤ 8
+  count : left.count ≡ length (colors_of left)
+  rising : ascending (colors_of left) ≡ true
+  size : length out ≡ length out₀
+  place : pos + length (cache_words (drop i cache) (colors_of left)) ≡ at + length (cache_words cache (colors_of left₀))
+  wrote : written out pos (cache_words (drop i cache) (colors_of left)) ≡ written out₀ at (cache_words cache (colors_of left₀))
+  kept : untaken (drop i cache) (colors_of left) ≡ untaken cache (colors_of left₀)
+
+module _ (cache out₀ : List ℕ) (at : ℕ) (left₀ : Left) (out : List ℕ) (left : Left) (pos i : ℕ) (v : Inv cache out₀ at left₀ out left pos i) where
+  abbrev rest : List ℕ
+  rest = drop i cache
+
+  -- nothing is left to send
+  record Ended : Type 0 where
+    count : left.count ≡ length (untaken cache (colors_of left₀))
+    kept : colors_of left ≡ untaken cache (colors_of left₀)
+    place : pos ≡ at + length (cache_words cache (colors_of left₀))
+    wrote : out ≡ written out₀ at (cache_words cache (colors_of left₀))
+
+  ended : cache_words rest (colors_of left) ≡ [] → untaken rest (colors_of left) ≡ colors_of left → Ended
+  unfolding written
+  ended none same =
+      let k : colors_of left ≡ untaken cache (colors_of left₀) = sym same ∙ v.kept in
+      record {
+        count = v.count ∙ ap length k;
+        kept = k;
+        place = omega (arith, rw none at v.place);
+        wrote = rw none at v.wrote;
+      }
+
+  abbrev this : ℕ
+  this = get_or cache i 0
+
+  split : i < length cache → rest ≡ this ∷ drop (i + 1) cache
+  split h = rw (drop-cons cache i 0 h, add-one) refl
+
+  module _ (more : i < length cache) (some : 0 < length (colors_of left)) where
+    sent : cache_words rest (colors_of left) ≡ bypass 1 (bit (elem this (colors_of left))) ∷ cache_words (drop (i + 1) cache) (remove this (colors_of left))
+    sent = rw (split more) (cache_step this (drop (i + 1) cache) (colors_of left) some)
+
+    fits : at + length (cache_words cache (colors_of left₀)) ≤ length out₀ → pos < length out
+    fits h = omega (arith, h, v.size, v.place, ap length sent)
+
+    turn : (left' : Left) (out' : List ℕ) (pos' b : ℕ) → left'.count ≡ length (remove this (colors_of left))
+        → colors_of left' ≡ remove this (colors_of left) → b ≡ bit (ltb left'.count left.count) → pos' ≡ pos + 1
+        → out' ≡ written out pos (bypass 1 b ∷ []) → length out' ≡ length out → Inv cache out₀ at left₀ out' left' pos' (i + 1)
+    unfolding written untaken
+    turn left' out' pos' b hc hl hb hp ho hs =
+        let L = colors_of left in
+        let told : b ≡ bit (elem this L) =
+        hb ∙ ap (λ (x : ℕ). bit (ltb x left.count)) hc ∙ ap (λ (x : ℕ). bit (ltb (length (remove this L)) x)) v.count
+        ∙ ap bit (elem_shorter this L) in
+        record {
+          seen = omega arith;
+          few = omega (arith, v.few, v.count, length_remove this L);
+          count = hc ∙ ap length (sym hl);
+          rising = rw hl (ascends_remove this L v.rising);
+          size = hs ∙ v.size;
+          place = rw (hp, hl) (omega (arith, v.place, ap length sent));
+          wrote = rw (ho, hp, hl, told) (rw sent at v.wrote);
+          kept = rw hl (rw (split more) at v.kept);
+        }
+
+pub loop-i-init : goal.loop-i-init
+loop-i-init c =
+    record {
+      seen = search rules;
+      few = c.requires.n_bound.0;
+      count = sym (length-take-le c.args.n c.args.colors (omega (arith, c.requires.n_bound.0, good_length (e_int w16) 8 c.args.colors _ c.well-formed.0)));
+      rising = c.requires.n_bound.1;
+      size = refl;
+      place = refl;
+      wrote = refl;
+      kept = refl;
+    }
+
+-- a colour is left
+some_left : (c : goal.After-before-1 → 0 < length (colors_of c.loop-i.left)
+some_left c = omega (arith, c.loop-i.invariant.count, c.if-count-eq0.false)
+
+-- all entries are sent
+past : (c : goal.After-loop-i → drop c.loop-i.i c.args.cache.now ≡ []
+past c = drop_of_length-le c.args.cache.now {i = c.loop-i.i} (omega arith)
+
+none : (c : goal.After-loop-i → cache_words (drop c.loop-i.i c.args.cache.now) (colors_of c.loop-i.left) ≡ []
+unfolding cache_words
+none c = rw (past c) refl
+
+same : (c : goal.After-loop-i → untaken (drop c.loop-i.i c.args.cache.now) (colors_of c.loop-i.left) ≡ colors_of c.loop-i.left
+unfolding untaken
+same c = rw (past c) refl
+
+pub returns-then-count-eq0 : goal.returns-then-count-eq0
+returns-then-count-eq0 c =
+    let l = c.loop-i in
+    let none : length (colors_of l.left) ≡ 0 = omega (arith, l.invariant.count, c.if-count-eq0.true) in
+    let e = ended _ _ _ _ _ _ _ l.i l.invariant (cache_none _ (colors_of l.left) none) (untaken_none _ (colors_of l.left) none) in
+    record { count_value = e.count; colors_value = e.kept; next_value = e.place; out_after = e.wrote }
+
+pub leave_out-left-requires : goal.leave_out-left-requires
+leave_out-left-requires c = let v = c.loop-i.invariant in (v.few, v.rising)
+
+pub put_bypass-pos-requires : goal.put_bypass-pos-requires
+put_bypass-pos-requires c =
+    let l = c.loop-i in
+    let h : l.pos < length l.out = fits _ _ _ _ _ _ _ l.i l.invariant c.loop-i-test.true (some_left c.before.before.before.before.before) c.requires.colors_in_bounds in
+    (omega arith, omega (arith, c.bit_of.ensures.1), h)
+
+pub loop-i-preserved : goal.loop-i-preserved
+loop-i-preserved c =
+    let l = c.loop-i in
+    let p = c.put_bypass-pos in
+    let k = c.leave_out-left in
+    turn _ _ _ _ _ _ _ l.i l.invariant c.loop-i-test.true (some_left c.before.before.before.before.before.before.before.before) k.result p.new.out p.result _
+    k.ensures.count_value k.ensures.colors_value c.bit_of.ensures.0 p.ensures.0 p.ensures.1 p.auto.out
+
+pub returns : goal.returns
+returns c =
+    let l = c.loop-i in
+    let e = ended _ _ _ _ _ _ _ l.i l.invariant (none c) (same c) in
+    record { count_value = e.count; colors_value = e.kept; next_value = e.place; out_after = e.wrote }

@@ -1,0 +1,13 @@
+use borrow.Author.Rules.{rules}
+use Rattle.emit.proofs.emit_map.Goals as goal
+
+pub words_of-words-requires : goal.words_of-words-requires
+words_of-words-requires c = let i = c.requires.lines_inside.0 in (i.two, i.eight)
+
+pub emit_by-requires : goal.emit_by-requires
+emit_by-requires c =
+    let p = c.requires in
+    ((p.lines_inside.0, record { table = c.codes-codes.ensures; each = c.words_of-words.ensures }), p.1)
+
+pub returns : goal.returns
+returns c = c.emit_by.ensures

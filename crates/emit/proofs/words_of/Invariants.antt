@@ -1,0 +1,14 @@
+use Prim.Native.Nat.{ℕ, ◌-◌, ◌+◌, ◌*◌, ◌/◌, ◌%◌, ◌≤◌, ◌<◌}
+use mathlib.Core.Path.{◌≡◌, refl, ◌∙◌}
+use native.Mathlib.Omega.{arith}
+use lib.ListN.{length, get_or, length-set}
+use borrow.Author.Rules.{rules}
+use Rattle.literals.specs.Words.{word}
+use Rattle.emit.proofs.Keys.{filled}
+use Rattle.emit.proofs.words_of.Given as goal
+
+abbrev pub invariant-loop-c : goal.invariant-loop-c
+invariant-loop-c l = (l.c ≤ 40) × (length l.words ≡ 40) × ((i : ℕ) → 0 ≤ i → i < l.c → get_or l.words i 0 ≡ code_word l.n i)
+
+abbrev pub decreases-loop-c : goal.decreases-loop-c
+decreases-loop-c l = 40 - l.c

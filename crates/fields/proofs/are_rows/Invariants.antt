@@ -1,0 +1,15 @@
+use borrow.Author.Tests.{not-true, not-false}
+use native.Mathlib.Nat.{sub-zero}
+use native.Mathlib.Omega.{arith}
+use Prim.Native.Nat.{◌≤◌, ◌+◌, ◌-◌, ◌*◌}
+use borrow.Author.Rules.{rules}
+use Rattle.lists.proofs.Rest.{one_left, none_left}
+use Rattle.fields.specs.Fields.{are_rows}
+use mathlib.Core.Path.{◌≡◌, refl, sym, ◌∙◌}
+use Rattle.fields.proofs.are_rows.Given as goal
+
+abbrev pub invariant-loop-y : goal.invariant-loop-y
+invariant-loop-y l = (l.y ≤ l.h) × (l.p ≤ l.at + 513 * l.y) × (are_rows l.limit l.s l.p l.w (l.h - l.y) ≡ are_rows l.limit l.s l.at l.w l.h)
+
+abbrev pub decreases-loop-y : goal.decreases-loop-y
+decreases-loop-y l = l.h - l.y

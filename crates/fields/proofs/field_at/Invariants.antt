@@ -1,0 +1,13 @@
+use Rattle.lists.proofs.Rest.{one_left, none_left}
+use native.Mathlib.Omega.{arith}
+use Prim.Native.Nat.{◌≤◌, ◌+◌, ◌-◌}
+use borrow.Author.Rules.{rules}
+use Rattle.fields.specs.Fields.{columns, field_at}
+use mathlib.Core.Path.{◌≡◌, refl, sym}
+use Rattle.fields.proofs.field_at.Given as goal
+
+abbrev pub invariant-loop-i : goal.invariant-loop-i
+invariant-loop-i l = (l.i ≤ 8) × (columns l.s (l.at + l.i) (8 - l.i) l.f ≡ field_at l.s l.at)
+
+abbrev pub decreases-loop-i : goal.decreases-loop-i
+decreases-loop-i l = 8 - l.i

@@ -1,0 +1,15 @@
+use borrow.Author.Tests.{not-true, not-false}
+use native.Mathlib.Nat.{sub-zero}
+use native.Mathlib.Omega.{arith}
+use Prim.Native.Nat.{◌≤◌, ◌+◌, ◌-◌, ◌*◌}
+use borrow.Author.Rules.{rules}
+use Rattle.lists.proofs.Rest.{one_left, none_left}
+use Rattle.fields.specs.Fields.{is_line}
+use mathlib.Core.Path.{◌≡◌, refl}
+use Rattle.fields.proofs.is_line.Given as goal
+
+abbrev pub invariant-loop-i : goal.invariant-loop-i
+invariant-loop-i l = (l.i ≤ l.k) × (l.p ≡ l.at + 8 * l.i) × (is_line l.limit l.s l.p (l.k - l.i) ≡ is_line l.limit l.s l.at l.k)
+
+abbrev pub decreases-loop-i : goal.decreases-loop-i
+decreases-loop-i l = l.k - l.i

@@ -1,0 +1,6 @@
+use mathlib.Core.Path.{refl, sym}
+use borrow.Author.Rules.{rules}
+use Rattle.fields.proofs.number_up_to.Goals as goal
+
+pub returns-in-Number : goal.returns-in-Number
+returns-in-Number c = sym (rw c.f-1.given.1 refl)

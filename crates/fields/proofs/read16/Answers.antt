@@ -1,0 +1,31 @@
+use Rattle.lists.specs.Written.{written}
+use lib.ListN.{length, length-set}
+use native.Mathlib.Nat.{sub-zero}
+use native.Mathlib.Omega.{arith}
+use Prim.Native.Nat.{◌≤◌, ◌+◌, ◌-◌, ◌*◌}
+use borrow.Author.Rules.{rules}
+use Rattle.lists.proofs.Rest.{one_left, none_left}
+use Rattle.fields.specs.Fields.{line_numbers, cut}
+use mathlib.Core.Path.{◌≡◌, refl}
+use Rattle.fields.proofs.read16.Goals as goal
+
+pub loop-i-init : goal.loop-i-init
+loop-i-init c = (search rules, omega arith, refl, rw sub-zero refl)
+
+pub loop-i-preserved : goal.loop-i-preserved
+unfolding written cut line_numbers
+loop-i-preserved c =
+    let l = c.loop-i in (
+      omega (arith, c.loop-i-test.true),
+      omega (arith, l.invariant.1),
+      simp length-set l.invariant.2,
+      rw (c.cut16.ensures, c.number_at-v.ensures)
+          (rw (one_left c.args.k l.i c.loop-i-test.true) at l.invariant.3),
+    )
+
+pub shape_of-out : goal.shape_of-out
+shape_of-out c = c.loop-i.invariant.2
+
+pub returns : goal.returns
+unfolding written cut line_numbers
+returns c = let l = c.loop-i in rw (none_left c.args.k l.i c.loop-i-test.false) at l.invariant.3

@@ -1,0 +1,18 @@
+use Rattle.lists.specs.Written.{written}
+use lib.ListN.{length, length-set}
+use native.Mathlib.Nat.{sub-zero}
+use native.Mathlib.Omega.{arith}
+use Prim.Native.Nat.{◌≤◌, ◌+◌, ◌-◌, ◌*◌}
+use borrow.Author.Rules.{rules}
+use Rattle.lists.proofs.Rest.{one_left, none_left}
+use Rattle.fields.specs.Fields.{line_numbers, cut}
+use mathlib.Core.Path.{◌≡◌, refl}
+use Rattle.fields.proofs.read16.Given as goal
+
+abbrev pub invariant-loop-i : goal.invariant-loop-i
+invariant-loop-i l =
+    (l.i ≤ l.k) × (l.p ≡ l.at + 8 * l.i) × (length l.out ≡ length l.initial.out)
+    × (written l.out l.i (cut 65535 (line_numbers l.s l.p (l.k - l.i))) ≡ written l.initial.out 0 (cut 65535 (line_numbers l.s l.at l.k)))
+
+abbrev pub decreases-loop-i : goal.decreases-loop-i
+decreases-loop-i l = l.k - l.i

@@ -1,0 +1,21 @@
+use native.Mathlib.Numerals.{add-one}
+use Rattle.lists.proofs.Written.{written_append}
+use Rattle.lists.specs.Written.{written}
+use lib.ListN.{length}
+use native.Mathlib.Nat.{sub-zero, suc-mul, zero-mul}
+use native.Mathlib.Omega.{arith}
+use Prim.Native.Nat.{◌≤◌, ◌+◌, ◌-◌, ◌*◌}
+use borrow.Author.Rules.{rules}
+use Rattle.lists.proofs.Rest.{one_left, none_left}
+use Rattle.fields.proofs.Laws.{length_line, length_cut, cut_append, row_room}
+use Rattle.fields.specs.Fields.{line_numbers, row_numbers, cut}
+use mathlib.Core.Path.{◌≡◌, refl, sym, ◌∙◌}
+use Rattle.fields.proofs.read_rows.Given as goal
+
+abbrev pub invariant-loop-y : goal.invariant-loop-y
+invariant-loop-y l =
+    (l.y ≤ l.h) × (l.p ≤ l.at + 513 * l.y) × (length l.out ≡ length l.initial.out) × (l.from ≡ l.y * l.w)
+    × (written l.out l.from (cut 255 (row_numbers l.s l.p l.w (l.h - l.y))) ≡ written l.initial.out 0 (cut 255 (row_numbers l.s l.at l.w l.h)))
+
+abbrev pub decreases-loop-y : goal.decreases-loop-y
+decreases-loop-y l = l.h - l.y

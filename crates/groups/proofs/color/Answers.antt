@@ -1,0 +1,98 @@
+use mathlib.Core.Path.{◌≡◌, refl}
+use mathlib.Core.List.{List}
+use Prim.Native.Nat.{ℕ, ◌+◌, ◌-◌, ◌*◌, ◌≤◌, ◌<◌}
+use native.Mathlib.Nat.{mul-pos, zero-lt-suc, div-lt_iff_lt-mul}
+use native.Mathlib.Omega.{arith}
+use lib.ListN.{get_or}
+use Rattle.groups.specs.Groups.{sum_in}
+use Rattle.groups.specs.Histogram.{sum_to}
+use Rattle.groups.proofs.Sums.{sum_next, sum_mono}
+use Rattle.groups.proofs.color.Goals as goal
+
+-- what one number more adds to a sum, which is not above the whole
+record More (xs : List ℕ) (t j : ℕ) : Type 0 where
+  next : sum_to xs (t + 1) ≡ sum_to xs t + get_or xs t 0
+  last : sum_to xs (t + 1) ≤ sum_to xs j
+
+more : (c : goal.In-loop-t
+    → let a = c.args in
+    let t = c.loop-t.t in
+    More a.w.now t a.j × More a.s.now t a.j
+more c =
+    let a = c.args in
+    let t = c.loop-t.t in
+    let l : t + 1 ≤ a.j = omega arith in
+    let one : (xs : List ℕ) → More xs t a.j =
+    λ xs. record { next = sum_next xs t; last = sum_mono xs (t + 1) a.j l } in
+    (one a.w.now, one a.s.now)
+
+-- after the loop
+record Sums (w s : List ℕ) (i j dw ds : ℕ) : Type 0 where
+  weight : dw ≡ sum_in w i j
+  sum : ds ≡ sum_in s i j
+  some : 0 < dw
+  few : dw ≤ 4096
+  mean : ds ≤ 4095 * dw
+
+sums : (c : goal.After-loop-t
+    → let a = c.args in
+    Sums a.w.now a.s.now a.i a.j c.loop-t.dw c.loop-t.ds
+sums c =
+    let l = c.loop-t in
+    let a = c.args in
+    let e : l.t ≡ a.j = omega arith in
+    let dw : l.dw + sum_to a.w.now a.i ≡ sum_to a.w.now a.j = rw e at l.invariant.2 in
+    let ds : l.ds + sum_to a.s.now a.i ≡ sum_to a.s.now a.j = rw e at l.invariant.3 in
+    let w : l.dw ≡ sum_in a.w.now a.i a.j = omega arith in
+    let s : l.ds ≡ sum_in a.s.now a.i a.j = omega arith in
+    record { weight = w; sum = s; some = omega arith; few = omega arith; mean = rw (w, s) c.requires.4 }
+
+pub loop-t-init : goal.loop-t-init
+loop-t-init c = (omega arith, omega arith, omega arith, omega arith)
+
+pub offset_bounds-w-t : goal.offset_bounds-w-t
+offset_bounds-w-t c = omega arith
+
+pub bounds-w-t : goal.bounds-w-t
+bounds-w-t c = omega arith
+
+pub overflow_add-dw : goal.overflow_add-dw
+overflow_add-dw c = omega (arith, more c.before)
+
+pub offset_bounds-s-t : goal.offset_bounds-s-t
+offset_bounds-s-t c = omega arith
+
+pub bounds-s-t : goal.bounds-s-t
+bounds-s-t c = omega arith
+
+pub overflow_add-ds : goal.overflow_add-ds
+overflow_add-ds c = omega (arith, more c.before.before)
+
+pub overflow_add-t : goal.overflow_add-t
+overflow_add-t c = omega arith
+
+pub loop-t-smaller : goal.loop-t-smaller
+loop-t-smaller c = omega arith
+
+pub loop-t-preserved : goal.loop-t-preserved
+loop-t-preserved c = let m = more c.before.before in (omega arith, omega arith, omega (arith, m), omega (arith, m))
+
+pub overflow_mul-result : goal.overflow_mul-result
+overflow_mul-result c = omega (arith, sums c)
+
+pub overflow_add-result : goal.overflow_add-result
+overflow_add-result c = omega (arith, sums c)
+
+pub overflow_mul-result-2 : goal.overflow_mul-result-2
+overflow_mul-result-2 c = omega (arith, sums c)
+
+pub nonzero_div-result : goal.nonzero_div-result
+nonzero_div-result c = omega (arith, sums c)
+
+pub overflow_cast-result : goal.overflow_cast-result
+overflow_cast-result c =
+    let m = sums c in
+    record { fits = (div-lt_iff_lt-mul (mul-pos (zero-lt-suc 1) m.some)).1 (omega (arith, m)) }
+
+pub returns : goal.returns
+returns c = let m = sums c in rw (m.weight, m.sum) refl

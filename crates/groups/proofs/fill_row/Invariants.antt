@@ -1,0 +1,14 @@
+use mathlib.Core.Path.{◌≡◌}
+use Prim.Native.Nat.{◌+◌, ◌-◌, ◌*◌, ◌≤◌, ◌<◌}
+use native.Mathlib.Omega.{arith}
+use lib.ListN.{length}
+use Rattle.groups.specs.Tables.{Filled}
+use Rattle.groups.proofs.Rows.{none, more}
+use Rattle.groups.proofs.fill_row.Given as goal
+
+-- The invariant: the row is filled up to column j.
+abbrev pub invariant-loop-j : goal.invariant-loop-j
+invariant-loop-j l = (l.j ≤ l.n + 1) × Filled l.pw l.ps l.pq l.k l.j l.initial.costs l.costs l.initial.cuts l.cuts
+
+abbrev pub decreases-loop-j : goal.decreases-loop-j
+decreases-loop-j l = l.n + 1 - l.j

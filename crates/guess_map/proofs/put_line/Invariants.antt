@@ -1,0 +1,14 @@
+use Prim.Native.Nat.{◌-◌}
+use mathlib.Core.Path.{◌≡◌, refl, ◌∙◌}
+use native.Mathlib.Omega.{arith}
+use lib.ListN.{length, length-set}
+use borrow.Author.Rules.{rules}
+use Rattle.near.specs.Near.{Below}
+use Rattle.scan.proofs.Fill.{below_set}
+use Rattle.guess_map.proofs.put_line.Given as goal
+
+abbrev pub invariant-loop-a : goal.invariant-loop-a
+invariant-loop-a l = (length l.map ≡ length l.initial.map) × Below l.map 8
+
+abbrev pub decreases-loop-a : goal.decreases-loop-a
+decreases-loop-a l = l.s.len - l.a

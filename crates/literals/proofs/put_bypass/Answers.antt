@@ -1,0 +1,7 @@
+use borrow.Author.Rules.{rules}
+use Rattle.literals.proofs.put_bypass.Goals as goal
+
+pub returns : goal.returns
+returns c =
+    let put = c.put.ensures in
+    (put.0, rw (← c.call.ensures) put.1)

@@ -1,0 +1,55 @@
+use Rattle.map_search.specs.declared.Choice.{Choice}
+use Rattle.map_search.specs.Parts.{constants_by}
+use Rattle.cells.specs.Cell.{cheapest, total_of}
+use native.Mathlib.Nat.{sub-zero}
+use borrow.Author.Rules.{rules}
+use Prim.Native.Nat.{suc, ◌+◌, ◌-◌, ◌≤◌}
+use native.Mathlib.Omega.{arith}
+use mathlib.Core.Bool.{true, false, cond}
+use mathlib.Core.Logic.{◌⊎◌, inl, inr, ⊎_elim}
+use lib.Ieee.{Float, lt}
+use mathlib.Core.Path.{◌≡◌, refl, sym, ap, ◌∙◌}
+use Rattle.map_search.proofs.best_const.Goals as goal
+
+abbrev total : Float → Choice → Float
+total lambda d = total_of d.cost lambda
+
+-- the next one or the best so far, by the total that is carried along
+by_least : (lambda least t least' : Float) (best next best' : Choice) → least ≡ total lambda best → t ≡ total lambda next
+    → ((lt t least ≡ true) × (best' ≡ next) × (least' ≡ t)) ⊎ ((lt t least ≡ false) × (best' ≡ best) × (least' ≡ least))
+    → (best' ≡ cond (lt (total lambda next) (total lambda best)) next best) × (least' ≡ total lambda best')
+by_least lambda least t least' best next best' e f (inl w) =
+    (rw (rw (e, f) at w.0) w.1, w.2 ∙ f ∙ ap (total lambda) (sym w.1))
+by_least lambda least t least' best next best' e f (inr w) =
+    (rw (rw (e, f) at w.0) w.1, w.2 ∙ e ∙ ap (total lambda) (sym w.1))
+
+pub loop-c-init : goal.loop-c-init
+loop-c-init c = (rw sub-zero refl, omega arith, c.total-least.ensures)
+
+pub constant-next-requires : goal.constant-next-requires
+constant-next-requires c =
+    (omega (arith, c.requires.0), c.requires.1, c.requires.2)
+
+pub overflow_add-c : goal.overflow_add-c
+overflow_add-c c = omega arith
+
+pub loop-c-smaller : goal.loop-c-smaller
+loop-c-smaller c = omega arith
+
+pub loop-c-preserved : goal.loop-c-preserved
+unfolding cheapest constants_by
+loop-c-preserved c =
+    let l = c.loop-c in
+    let a = c.args in
+    let next = c.constant-next.result in
+    let e : a.n - l.c ≡ suc (a.n - (l.c + 1)) = omega (arith, c.loop-c-test.true) in
+    let kept = by_least a.lambda l.least c.total-total.result c.if-total-least.least l.best next c.if-total-least.best l.invariant.2
+    c.total-total.ensures
+    (⊎_elim (λ w. inl (w.0.taken, w.1, w.2)) (λ w. inr (w.0.left, w.1, w.2)) c.if-total-least.branch) in
+    (rw (kept.0, c.constant-next.ensures) (rw e at l.invariant.0), omega arith, kept.1)
+
+pub returns : goal.returns
+unfolding cheapest constants_by
+returns c =
+    let none : c.args.n - c.loop-c.c ≡ 0 = omega (arith, c.loop-c-test.false) in
+    rw none at c.loop-c.invariant.0

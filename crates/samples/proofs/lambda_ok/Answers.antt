@@ -1,0 +1,5 @@
+use borrow.Author.Rules.{rules}
+use Rattle.samples.proofs.lambda_ok.Goals as goal
+
+pub returns : goal.returns
+returns c = c.in_range.ensures

@@ -1,0 +1,15 @@
+use mathlib.Core.List.{List}
+use Rattle.scan.proofs.Fill.{fill_other}
+use Rattle.scan.specs.Scan.{place_at, cell_in, fill}
+use native.Mathlib.Numerals.{add-one}
+use lib.ListN.{length, set, length-set}
+use Prim.Native.Nat.{ℕ, ◌-◌, ◌<◌, ◌≤◌}
+use native.Mathlib.Omega.{arith}
+use mathlib.Core.Path.{◌≡◌, refl, ap, ◌∙◌}
+use Rattle.scan.proofs.copy_line.Given as goal
+
+abbrev pub invariant-loop-a : goal.invariant-loop-a
+invariant-loop-a l = (l.map ≡ fill l.s l.l (λ b. cell_in l.initial.map l.s (l.l - 1) b) l.initial.map l.a) × (length l.map ≡ length l.initial.map) × (l.a ≤ l.s.len)
+
+abbrev pub decreases-loop-a : goal.decreases-loop-a
+decreases-loop-a l = l.s.len - l.a

@@ -1,0 +1,13 @@
+use Rattle.scan.specs.Scan.{place_at, fill}
+use native.Mathlib.Numerals.{add-one}
+use lib.ListN.{length, length-set}
+use Prim.Native.Nat.{ℕ, ◌-◌, ◌<◌, ◌≤◌}
+use native.Mathlib.Omega.{arith}
+use mathlib.Core.Path.{◌≡◌, refl, ap, ◌∙◌}
+use Rattle.scan.proofs.fill_line.Given as goal
+
+abbrev pub invariant-loop-a : goal.invariant-loop-a
+invariant-loop-a l = (l.map ≡ fill l.s l.l (λ b. l.i) l.initial.map l.a) × (length l.map ≡ length l.initial.map) × (l.a ≤ l.s.len)
+
+abbrev pub decreases-loop-a : goal.decreases-loop-a
+decreases-loop-a l = l.s.len - l.a

@@ -1,0 +1,21 @@
+use mathlib.Core.Path.{◌≡◌, refl, sym, ◌∙◌}
+use mathlib.Core.Bool.{Bool, false}
+use mathlib.Core.Logic.{⊎_elim}
+use Prim.Native.Nat.{ℕ, ◌-◌, ◌≤◌, ◌<◌}
+use native.Mathlib.Omega.{arith}
+use lib.ListN.{get_or}
+use lib.Ieee.{Float, nan}
+use borrow.Author.Tests.{eq-eqb, ne_eqb}
+use Rattle.cells.specs.Cell.{first_cheapest}
+use Rattle.sizes.specs.Order.{those, all_sizes}
+use Rattle.sizes.proofs.Turns.{from, found, step, step_below, found_none, next_turn}
+use Rattle.sizes.proofs.next_size.Given as goal
+
+abbrev pub invariant-loop-k : goal.invariant-loop-k
+invariant-loop-k l =
+    (found (λ (j : ℕ). get_or l.lbs j nan) l.best (those (λ (j : ℕ). get_or l.open j false) (from l.k))
+    ≡ first_cheapest (λ (j : ℕ). get_or l.lbs j nan) 0 (those (λ (j : ℕ). get_or l.open j false) all_sizes))
+    × (2 ≤ l.k) × (l.k ≤ 9) × (l.best < 9)
+
+abbrev pub decreases-loop-k : goal.decreases-loop-k
+decreases-loop-k l = 9 - l.k

@@ -1,0 +1,6 @@
+use mathlib.Core.Path.{refl}
+use borrow.Author.Rules.{rules}
+use Rattle.strip.proofs.count_ok.Goals as goal
+
+pub returns : goal.returns
+returns c = rw c.within.ensures refl
