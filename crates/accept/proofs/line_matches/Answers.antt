@@ -18,7 +18,7 @@ unfolding all_below
 more f n same t p q = rw (add-one, p, q) (and_comm (all_below f n) (f n))
 
 -- a place of a line is in the map
-placed : (c : goal.After-length_of-len (m k : ℕ)
+placed : (c : goal.After-length_of-len) (m k : ℕ)
     → let s = c.args in m < lines_of s.transposed s.width s.height → k < c.length_of-len.result
     → row_at s.transposed m k * s.width + col_at s.transposed m k < length s.map.now
 placed c m k p q =
@@ -26,10 +26,9 @@ placed c m k p q =
     rw c.requires.map_len (in_block s.transposed s.width s.height m k p (rw c.length_of-len.ensures at q)).place
 
 -- a step of 0 or 1 stays on the line
-short : (c : goal.After-index_at-here
+short : (c : goal.After-index_at-here)
     → c.loop-a.a * c.args.step < c.length_of-len.result
 short c =
-    let c.before.before = c.before.before in
     omega (arith, c.loop-a-test.true, mul-le-mul_left c.loop-a.a c.requires.l_bound.2)
 
 pub loop-a-init : goal.loop-a-init

@@ -8,9 +8,8 @@ use Rattle.cells.proofs.Ranked.{chosen_in}
 use borrow.Author.Rules.{rules}
 use Rattle.cells.proofs.choose_cell.Goals as goal
 
-inside : (c : goal.After-pick_by-p) →     (c.pick_by-p.result.index < c.args.n) × (c.pick_by-p.result.rank < 8)
+inside : (c : goal.After-pick_by-p) → (c.pick_by-p.result.index < c.args.n) × (c.pick_by-p.result.rank < 8)
 inside c =
-    let c.before.before.before = c.before.before.before in
     let a = c.args in
     rw c.pick_by-p.ensures
     (chosen_in c.squares-dists.result a.rates.now a.lambda a.n (row_order a.row a.n) c.requires.2

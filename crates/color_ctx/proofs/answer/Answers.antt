@@ -16,7 +16,7 @@ Known c =
     let a = (start c).args in
     Fits c.row_of-row.result a.n × (around_row c.row_of-row.result ≡ by_three a.left.0 a.top.0 a.diag.0)
 
-known : (c : goal.After-row_of-row → Known c
+known : (c : goal.After-row_of-row) → Known c
 known c =
     let p = (start c).requires in
     row_known _ _ _ _ (start c).args.n c.row_of-row.ensures p.0 p.1 p.2 p.3

@@ -102,18 +102,18 @@ loop-i-init c =
     }
 
 -- a colour is left
-some_left : (c : goal.After-before-1 → 0 < length (colors_of c.loop-i.left)
+some_left : (c : goal.After-before-1) → 0 < length (colors_of c.loop-i.left)
 some_left c = omega (arith, c.loop-i.invariant.count, c.if-count-eq0.false)
 
 -- all entries are sent
-past : (c : goal.After-loop-i → drop c.loop-i.i c.args.cache.now ≡ []
+past : (c : goal.After-loop-i) → drop c.loop-i.i c.args.cache.now ≡ []
 past c = drop_of_length-le c.args.cache.now {i = c.loop-i.i} (omega arith)
 
-none : (c : goal.After-loop-i → cache_words (drop c.loop-i.i c.args.cache.now) (colors_of c.loop-i.left) ≡ []
+none : (c : goal.After-loop-i) → cache_words (drop c.loop-i.i c.args.cache.now) (colors_of c.loop-i.left) ≡ []
 unfolding cache_words
 none c = rw (past c) refl
 
-same : (c : goal.After-loop-i → untaken (drop c.loop-i.i c.args.cache.now) (colors_of c.loop-i.left) ≡ colors_of c.loop-i.left
+same : (c : goal.After-loop-i) → untaken (drop c.loop-i.i c.args.cache.now) (colors_of c.loop-i.left) ≡ colors_of c.loop-i.left
 unfolding untaken
 same c = rw (past c) refl
 

@@ -8,7 +8,7 @@ use Rattle.emit.proofs.Keys.{filled}
 use Rattle.emit.proofs.fill_keys.Goals as goal
 
 -- the cell at hand is inside
-inside : (c : goal.In-loop-a → let s = c.args in let p = s.first + c.loop-a.a * s.step in
+inside : (c : goal.In-loop-a) → let s = c.args in let p = s.first + c.loop-a.a * s.step in
     (s.w < p) × (p < length s.map.now)
 inside c = c.requires.inner _ c.loop-a.invariant.0 c.loop-a-test.true
 

@@ -14,7 +14,7 @@ record More (xs : List ℕ) (t j : ℕ) : Type 0 where
   next : sum_to xs (t + 1) ≡ sum_to xs t + get_or xs t 0
   last : sum_to xs (t + 1) ≤ sum_to xs j
 
-more : (c : goal.In-loop-t
+more : (c : goal.In-loop-t)
     → let a = c.args in
     let t = c.loop-t.t in
     More a.w.now t a.j × More a.s.now t a.j
@@ -34,7 +34,7 @@ record Sums (w s : List ℕ) (i j dw ds : ℕ) : Type 0 where
   few : dw ≤ 4096
   mean : ds ≤ 4095 * dw
 
-sums : (c : goal.After-loop-t
+sums : (c : goal.After-loop-t)
     → let a = c.args in
     Sums a.w.now a.s.now a.i a.j c.loop-t.dw c.loop-t.ds
 sums c =

@@ -15,7 +15,7 @@ use Rattle.groups.specs.Groups.{prefix_of}
 use Rattle.groups.proofs.Sums.{sums_first, sums_length, sums_next}
 use Rattle.groups.proofs.prefix.Goals as goal
 
-full : (c : goal.Start → length c.args.t1 ≡ 32
+full : (c : goal.Start) → length c.args.t1 ≡ 32
 full c = good_length (e_int w64) 32 c.args.t1 _ c.well-formed.0
 
 pub loop-i-init : goal.loop-i-init
@@ -23,7 +23,6 @@ loop-i-init c = (
   omega arith,
   refl,
   λ k h. let e : k ≡ 0 = omega arith in rw e (sym (sums_first (of_bits binary64 0) c.args.t1)),
-
 )
 
 pub offset_bounds-out-i : goal.offset_bounds-out-i

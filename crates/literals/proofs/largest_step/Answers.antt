@@ -11,7 +11,7 @@ use Rattle.literals.proofs.largest_step.Goals as goal
 max_assoc : (a b c : ℕ) → max (max a b) c ≡ max a (max b c)
 max_assoc a b c = omega arith
 
-room : (s : goal.Start → s.args.n ≤ length s.args.colors
+room : (s : goal.Start) → s.args.n ≤ length s.args.colors
 room s = eight _ s.args.colors _ s.well-formed.0 s.requires.0
 
 pub step-requires : goal.step-requires

@@ -9,7 +9,7 @@ use Rattle.literals.proofs.Colors.{eight, reaches}
 use Rattle.literals.proofs.Widths.{cut_bits_le}
 use Rattle.literals.proofs.steps_width.Goals as goal
 
-room : (s : goal.Start → s.args.n ≤ length s.args.colors
+room : (s : goal.Start) → s.args.n ≤ length s.args.colors
 room s = eight _ s.args.colors _ s.well-formed.0 s.requires.0
 
 pub cut_bits-b-requires : goal.cut_bits-b-requires

@@ -8,12 +8,12 @@ use native.Mathlib.Omega.{arith}
 use mathlib.Core.Path.{◌≡◌, refl, ap, ◌∙◌}
 use Rattle.map_search.proofs.copy_dist.Goals as goal
 
-inside : (c : goal.In-loop-a → let a = c.args in
+inside : (c : goal.In-loop-a) → let a = c.args in
     place_at a.s a.l c.loop-a.a < length a.src.now
 inside c =
     c.requires.sound.0.inside c.args.l c.loop-a.a c.requires.sound.2 c.loop-a-test.true
 
-above : (c : goal.In-loop-a → let a = c.args in
+above : (c : goal.In-loop-a) → let a = c.args in
     place_at a.s (a.l - 1) c.loop-a.a < length a.src.now
 above c =
     c.requires.sound.0.inside (c.args.l - 1) c.loop-a.a (omega (arith, c.requires.sound.2)) c.loop-a-test.true
@@ -61,11 +61,10 @@ loop-a-smaller c = omega (arith, c.loop-a-test.true)
 
 pub loop-a-preserved : goal.loop-a-preserved
 unfolding dist_line
-loop-a-preserved c =
-    (
-      rw (add-one, dist_line, c.square-t.ensures, c.place-p.ensures, c.place-q.ensures, c.loop-a.invariant.0) refl,
-      omega (arith, c.loop-a-test.true),
-    )
+loop-a-preserved c = (
+  rw (add-one, dist_line, c.square-t.ensures, c.place-p.ensures, c.place-q.ensures, c.loop-a.invariant.0) refl,
+  omega (arith, c.loop-a-test.true),
+)
 
 pub returns : goal.returns
 returns c =

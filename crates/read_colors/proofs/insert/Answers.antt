@@ -39,7 +39,7 @@ module _ (count : ℕ) (colors : List ℕ) (e : ℕ) (out : List ℕ) (carry i :
       let last = rw (done count colors fits i h) at v.put in
       rw same at last ∙ written_front (replicate 8 0) (insert e (take count colors)) few
 
-room : (c : goal.Start → c.args.count ≤ length c.args.t1
+room : (c : goal.Start) → c.args.count ≤ length c.args.t1
 room c = omega (arith, c.requires, good_length (e_int w16) 8 c.args.t1 _ c.well-formed.0)
 
 pub loop-i-init : goal.loop-i-init

@@ -8,7 +8,7 @@ use Rattle.read_map.proofs.Lines.{CellsInv, cells_start, cells_fault, cells_turn
 use Rattle.read_map.proofs.read_cells.Goals as goal
 
 -- the cell at hand stands in the map
-inside : (c : goal.In-loop-a → let a = c.args in place_at a.s a.l
+inside : (c : goal.In-loop-a) → let a = c.args in place_at a.s a.l
     c.loop-a.a < length a.map.now
 inside c = let p = c.requires.sound in p.0.inside _ _ p.1 c.loop-a-test.true
 
@@ -28,7 +28,6 @@ place-p-requires c = omega (
   inside
       c.before.before.before,
   c.requires.sound.0.small,
-
 )
 
 pub bounds-map-p : goal.bounds-map-p
@@ -38,7 +37,6 @@ bounds-map-p c = omega (
   inside
       c.before.before.before.before,
   c.loop-a.invariant.size,
-
 )
 
 pub shape_of-map-then-place-ne0 : goal.shape_of-map-then-place-ne0
@@ -55,11 +53,14 @@ pub returns-then-place-ne0 : goal.returns-then-place-ne0
 returns-then-place-ne0 c =
     let a = c.args in
     let l = c.loop-a in
-    let r = c.read_index-found in record { words_value = cells_fault a.words.now a.at a.map.now a.n a.s a.l l.map l.place l.a l.invariant
+    let r = c.read_index-found in record {
+      words_value = cells_fault a.words.now a.at a.map.now a.n a.s a.l l.map l.place l.a l.invariant
           c.loop-a-test.true r.result.place _
           (cell_read a.words.now a.n a.s a.l l.a l.place.at l.map r.result.place r.result.index.0 _ r.ensures.words_value
           c.place-p.ensures)
-          c.if-place-ne0.true; below = below_set l.map a.n _ _ l.invariant.below r.ensures.index_lt_n }
+          c.if-place-ne0.true;
+      below = below_set l.map a.n _ _ l.invariant.below r.ensures.index_lt_n;
+    }
 
 pub overflow_add-a : goal.overflow_add-a
 overflow_add-a c = omega (arith, c.loop-a-test.true)

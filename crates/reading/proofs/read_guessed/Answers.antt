@@ -24,11 +24,14 @@ relists-listed-requires c =
 pub read_words-requires : goal.read_words-requires
 read_words-requires c =
     let g = c.guess_lines in
-    record { headed = c.requires.headed; cells_len = (
+    record {
+      headed = c.requires.headed;
+      cells_len = (
         g.auto.map ∙ length_zeros c.args.cells.now _ c.requires.cells_value.0,
         g.auto.flags ∙ length_zeros c.args.lines.now _ c.requires.cells_value.1,
         omega (arith, c.relists-listed.auto.aside, c.requires.cells_value.2),
-      ) }
+      );
+    }
 
 pub returns-then-not-listed : goal.returns-then-not-listed
 returns-then-not-listed c = c.read_words.ensures
@@ -47,7 +50,6 @@ pub returns : goal.returns
 returns c =
     let d = c.deliver in
     let g = c.guess_lines in
-    let c.before.before.before.before.before.before.before.before.before.before.before.before = c.before.before.before.before.before.before.before.before.before.before.before.before in
     let b = c.args.b in
     let p = made b c.args.cache.now c.args.words.now (length c.args.map.now) (length c.args.flags.now) c.requires.headed
     g.new.map g.new.flags in

@@ -8,18 +8,18 @@ use native.Mathlib.Omega.{arith}
 use mathlib.Core.Path.{◌≡◌, refl, ap, ◌∙◌}
 use Rattle.scan.proofs.copy_line.Goals as goal
 
-inside : (c : goal.In-loop-a → let a = c.args in
+inside : (c : goal.In-loop-a) → let a = c.args in
     place_at a.s a.l c.loop-a.a < length a.map.now
 inside c =
     c.requires.0.inside c.args.l c.loop-a.a c.requires.1 c.loop-a-test.true
 
-above : (c : goal.In-loop-a → let a = c.args in
+above : (c : goal.In-loop-a) → let a = c.args in
     place_at a.s (a.l - 1) c.loop-a.a < length a.map.now
 above c =
     c.requires.0.inside (c.args.l - 1) c.loop-a.a (omega (arith, c.requires.1)) c.loop-a-test.true
 
 -- what is read is what stood there at first
-read : (c : goal.In-loop-a → let a = c.args in
+read : (c : goal.In-loop-a) → let a = c.args in
     let l = c.loop-a in
     cell_in l.map a.s (a.l - 1) l.a ≡ cell_in a.map.now a.s (a.l - 1) l.a
 read c =

@@ -6,7 +6,7 @@ use native.Mathlib.Omega.{arith}
 use mathlib.Core.Path.{◌≡◌, refl, ap, ◌∙◌}
 use Rattle.scan.proofs.fill_line.Goals as goal
 
-inside : (c : goal.In-loop-a → let a = c.args in
+inside : (c : goal.In-loop-a) → let a = c.args in
     place_at a.s a.l c.loop-a.a < length a.map.now
 inside c =
     c.requires.0.inside c.args.l c.loop-a.a c.requires.1 c.loop-a-test.true

@@ -16,7 +16,7 @@ try_both-requires c =
       passed.3,
       record {
         values = c.values-colours.ensures;
-        sure = record { capped = c.cap_of-cap.ensures; c.before.before.before.before.before = c.skips_of-skips.ensures };
+        sure = record { capped = c.cap_of-cap.ensures; skipped = c.skips_of-skips.ensures };
       },
     )
 

@@ -12,7 +12,7 @@ use mathlib.Core.Path.{◌≡◌, refl}
 use Prim.Native.Nat.{◌≤◌, ◌<◌, ◌+◌, ◌-◌}
 use Rattle.station.proofs.put.Goals as goal
 
-eight : (c : goal.Start → length c.args.t3 ≡ 8
+eight : (c : goal.Start) → length c.args.t3 ≡ 8
 eight c = good_length (e_int w8) 8 c.args.t3 _ c.well-formed.1.1.0
 
 pub loop-i-init : goal.loop-i-init
@@ -29,5 +29,5 @@ loop-i-preserved c = let o = c.args.t3 in
 
 pub returns : goal.returns
 unfolding written
-returns c =     let l = c.loop-i in
+returns c = let l = c.loop-i in
     rw (drop_of_length-le c.args.t3 {i = l.i} (omega (arith, eight c.before.before, c.loop-i-test.false))) at l.invariant.2

@@ -9,7 +9,7 @@ use Rattle.strip.proofs.Sides.{Within, block_within, places_more}
 use Rattle.strip.proofs.places_of.Goals as goal
 
 -- the block at hand
-here : (c : goal.In-loop-i → Within c.args.sides.now c.loop-i.i
+here : (c : goal.In-loop-i) → Within c.args.sides.now c.loop-i.i
 here c = let p = c.requires in block_within _ p.0 p.1 _ c.loop-i-test.true
 
 pub loop-i-init : goal.loop-i-init
