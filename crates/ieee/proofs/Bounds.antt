@@ -8,7 +8,7 @@ use native.Mathlib.Omega.{arith}
 use lib.Dec.{T, ltb}
 use lib.IntN.{pos}
 use lib.Pow.{pow-add}
-use lib.Ieee.{Float, inf, fin, Format, prec, emax, low, up, down, round, sum, add, sub, neg, mul, lt, eq, le}
+use lib.Ieee.{Float, inf, fin, Format, prec, emax, low, up, down, round, sum, add, sub, neg, mul, lt, eq, le, nan}
 use lib.Ieee.{unlike, of_bits}
 use lib.Ieee.Fits.{down_pos}
 use lib.Ieee.Exact.{HasValue, round_exact}
@@ -26,12 +26,18 @@ Rep f A = HasValue (round f false A 1) false A 1
 
 -- ---- where a bound comes from
 pub value_under : (x : Float) (s : Bool) (a c A : ℕ) → 0 < c → HasValue x s a c → a ≤ A * c → Under x A
+value_under nan s a c A C v h = elim v [ ]
+value_under (inf _) s a c A C v h = elim v [ ]
 value_under (fin t m e) s a c A C v h = le_whole (m * up e) (down e) a c A C (le_of_eq v.1) h
 
 pub value_within : (x : Float) (a c A : ℕ) → 0 < c → HasValue x false a c → a ≤ A * c → Within x A
 value_within x a c A C v h = (value_under x false a c A C v h, value_not_neg x a c v)
 
 grows_under : (y x : Float) (A : ℕ) → Grows x y → HasValue y false A 1 → Under x A
+grows_under nan _ A g v = elim v [ ]
+grows_under (inf _) _ A g v = elim v [ ]
+grows_under (fin t n d) nan A g v = elim g [ ]
+grows_under (fin t n d) (inf _) A g v = elim g [ ]
 grows_under (fin t n d) (fin s m e) A g v =
     le_whole (m * up e) (down e) (n * up d) (down d) A (down_pos d) g (omega (arith, v.1))
 
@@ -48,6 +54,8 @@ within_if f x y A p q v = within_of_tests x y A (rw (← zero_bits f, p) tt) (rw
 
 -- a larger bound
 pub under_mono : (x : Float) (A B : ℕ) → A ≤ B → Under x A → Under x B
+under_mono nan A B h u = elim u [ ]
+under_mono (inf _) A B h u = elim u [ ]
 under_mono (fin s m e) A B h u = le_trans u (mul-le-mul_right (down e) h)
 
 pub within_mono : (x : Float) (A B : ℕ) → A ≤ B → Within x A → Within x B
@@ -85,11 +93,17 @@ sum_fits M x N y A B h k = omega (arith, mul-le-mul_right y h, mul-le-mul_right 
 
 pub add_under : (f : Format) (x y : Float) (A B : ℕ) → Under x A → Under y B → Rep f (A + B) → Under (add f x y) (A + B)
 unfolding add
+add_under f nan y A B h k r = elim h [ ]
+add_under f (inf _) y A B h k r = elim h [ ]
+add_under f (fin s m e) nan A B h k r = elim k [ ]
+add_under f (fin s m e) (inf _) A B h k r = elim k [ ]
 add_under f (fin s m e) (fin t n d) A B h k r =
     sum_le f s t _ _ _ (A + B) (downs_pos e d) (sum_fits (m * up e) (down e) (n * up d) (down d) A B h k) r
 
 pub neg_under : (x : Float) (A : ℕ) → Under x A → Under (neg x) A
 unfolding neg
+neg_under nan A h = elim h [ ]
+neg_under (inf _) A h = elim h [ ]
 neg_under (fin s m e) A h = h
 
 pub sub_under : (f : Format) (x y : Float) (A B : ℕ) → Under x A → Under y B → Rep f (A + B) → Under (sub f x y) (A + B)
@@ -98,6 +112,10 @@ sub_under f x y A B h k r = add_under f x (neg y) A B h (neg_under y B k) r
 
 pub mul_under : (f : Format) (x y : Float) (A B : ℕ) → Under x A → Under y B → Rep f (A * B) → Under (mul f x y) (A * B)
 unfolding mul
+mul_under f nan y A B h k r = elim h [ ]
+mul_under f (inf _) y A B h k r = elim h [ ]
+mul_under f (fin s m e) nan A B h k r = elim k [ ]
+mul_under f (fin s m e) (inf _) A B h k r = elim k [ ]
 mul_under f (fin s m e) (fin t n d) A B h k r =
     round_le f (unlike s t) _ _ (A * B) (downs_pos e d) (omega (arith, mul-le-mul h k)) r
 
@@ -112,9 +130,13 @@ square_within f x A h r = (mul_under f x x A A h h r, square_not_neg f x)
 -- an infinite limit is never reached
 pub under_bound : (x : Float) (A : ℕ) → Under x A → le (inf false) x ≡ false
 unfolding le lt eq
+under_bound nan A h = elim h [ ]
+under_bound (inf _) A h = elim h [ ]
 under_bound (fin s m e) A h = refl
 
 -- every such value is below infinity
 pub under_lt : (x : Float) (A : ℕ) → Under x A → lt x (inf false) ≡ true
 unfolding lt
+under_lt nan A h = elim h [ ]
+under_lt (inf _) A h = elim h [ ]
 under_lt (fin s m e) A h = refl

@@ -80,17 +80,33 @@ Finite (inf s) = ⊥
 Finite (fin s m e) = Unit {0}
 
 pub under_finite : (x : Float) (A : ℕ) → Under x A → Finite x
+under_finite nan A u = elim u [ ]
+under_finite (inf _) A u = elim u [ ]
 under_finite (fin s m e) A u = tt
 
 pub at_most_trans : (x y z : Float) → Finite x → Finite y → Finite z → lt y x ≡ false → lt z y ≡ false → lt z x ≡ false
 unfolding lt
+at_most_trans nan y z X Y Z h l = elim X [ ]
+at_most_trans (inf _) y z X Y Z h l = elim X [ ]
+at_most_trans (fin s m e) nan z X Y Z h l = elim Y [ ]
+at_most_trans (fin s m e) (inf _) z X Y Z h l = elim Y [ ]
+at_most_trans (fin s m e) (fin t n d) nan X Y Z h l = elim Z [ ]
+at_most_trans (fin s m e) (fin t n d) (inf _) X Y Z h l = elim Z [ ]
 at_most_trans (fin s m e) (fin t n d) (fin u k g) X Y Z h l =
     below_trans s t u (m * up e) (n * up d) (k * up g) (down e) (down d) (down g) (down_pos e) (down_pos d) (down_pos g) h l
 
 pub lt_asym : (x y : Float) → Finite x → Finite y → lt x y ≡ true → lt y x ≡ false
 unfolding lt
+lt_asym nan y X Y h = elim X [ ]
+lt_asym (inf _) y X Y h = elim X [ ]
+lt_asym (fin s m e) nan X Y h = elim Y [ ]
+lt_asym (fin s m e) (inf _) X Y h = elim Y [ ]
 lt_asym (fin s m e) (fin t n d) X Y h = below_asym s t (m * up e * down d) (n * up d * down e) h
 
 pub lt_tie : (x y : Float) → Finite x → Finite y → lt x y ≡ false → lt y x ≡ false → eq x y ≡ true
 unfolding lt eq
+lt_tie nan y X Y h k = elim X [ ]
+lt_tie (inf _) y X Y h k = elim X [ ]
+lt_tie (fin s m e) nan X Y h k = elim Y [ ]
+lt_tie (fin s m e) (inf _) X Y h k = elim Y [ ]
 lt_tie (fin s m e) (fin t n d) X Y h k = below_tie s t (m * up e * down d) (n * up d * down e) h k

@@ -32,6 +32,14 @@ grows_refl (fin s m e) = le_refl (m * up e * down e)
 
 pub grows_trans : (x y z : Float) → Grows x y → Grows y z → Grows x z
 grows_trans x y nan p q = tt
+grows_trans nan (inf s) (inf t) p q = elim p [ ]
+grows_trans nan (fin s m e) (inf t) p q = elim p [ ]
+grows_trans nan (inf s) (fin t n d) p q = elim p [ ]
+grows_trans nan (fin s m e) (fin t n d) p q = elim p [ ]
+grows_trans (inf r) nan (fin t n d) p q = elim q [ ]
+grows_trans (inf r) (fin s m e) (fin t n d) p q = elim p [ ]
+grows_trans (fin r k g) nan (fin t n d) p q = elim q [ ]
+grows_trans (fin r k g) (inf s) (fin t n d) p q = elim q [ ]
 grows_trans nan nan (inf t) p q = q
 grows_trans (inf r) y (inf t) p q = tt
 grows_trans (fin r k g) y (inf t) p q = tt
@@ -42,6 +50,9 @@ grows_trans (fin r k g) (fin s m e) (fin t n d) p q =
 
 -- signs play no part
 grows_resign : (s t : Bool) (x y : Float) → Grows x y → Grows (resign s x) (resign t y)
+grows_resign s t nan (inf v) p = elim p [ ]
+grows_resign s t nan (fin v n d) p = elim p [ ]
+grows_resign s t (inf u) (fin v n d) p = elim p [ ]
 grows_resign s t x nan p = tt
 grows_resign s t (inf u) (inf v) p = tt
 grows_resign s t (fin u m e) (inf v) p = tt

@@ -25,6 +25,11 @@ or_nan false x y g = g
 
 -- a product grows with its second factor, where the first is finite
 pub mul_grows : (f : Format) (l x y : Float) (A : ℕ) → Under l A → Grows x y → Grows (mul f l x) (mul f l y)
+mul_grows f nan x y A u g = elim u [ ]
+mul_grows f (inf _) x y A u g = elim u [ ]
+mul_grows f (fin s m e) nan (inf t) A u g = elim g [ ]
+mul_grows f (fin s m e) nan (fin t n d) A u g = elim g [ ]
+mul_grows f (fin s m e) (inf r) (fin t n d) A u g = elim g [ ]
 mul_grows f (fin s m e) x nan A u g = unfold mul in tt
 mul_grows f (fin s m e) (inf r) (inf t) A u g = unfold mul in (both (eqb m 0))
   where
@@ -46,6 +51,9 @@ sum_le A x A' x' B y B' y' h k = omega (arith, mul-le-mul_right (y * y') h, mul-
 -- no nan from values that are none
 sum_inf : (f : Format) (x y : Float) (s t u : Bool) → NotNeg x → NotNeg y → Grows x (inf s) → Grows y (inf t)
     → Grows (add f x y) (inf u)
+sum_inf f nan y s t u p q g h = elim g [ ]
+sum_inf f (inf r) nan s t u p q g h = elim h [ ]
+sum_inf f (fin r m e) nan s t u p q g h = elim h [ ]
 sum_inf f (inf r) (inf v) s t u p q g h = unfold add in (rw (p, q) tt)
 sum_inf f (inf r) (fin v n d) s t u p q g h = unfold add in tt
 sum_inf f (fin r m e) (inf v) s t u p q g h = unfold add in tt
@@ -62,6 +70,10 @@ add_grows f x (inf s) y (fin t n d) p p' q q' g h =
 add_grows f x (fin s m e) y nan p p' q q' g h = unfold add in tt
 add_grows f x (fin s m e) y (inf t) p p' q q' g h =
     unfold add in (sum_inf f x y s t t p q (grows_trans x (fin s m e) (inf s) g tt) h)
+add_grows f nan (fin s m e) y (fin t n d) p p' q q' g h = elim g [ ]
+add_grows f (inf _) (fin s m e) y (fin t n d) p p' q q' g h = elim g [ ]
+add_grows f (fin r k c) (fin s m e) nan (fin t n d) p p' q q' g h = elim h [ ]
+add_grows f (fin r k c) (fin s m e) (inf _) (fin t n d) p p' q q' g h = elim h [ ]
 add_grows f (fin r k c) (fin s m e) (fin v j b) (fin t n d) p p' q q' g h =
     rw ((add_is f r v k j c b p q).0, (add_is f s t m n e d p' q').0)
     (round_grows f (r && v) (s && t) _ _ _ _ (downs_pos c b) (downs_pos e d)
@@ -73,6 +85,8 @@ self_grows : (f : Format) (u s : Bool) (m : ℕ) (e : ℤ) → T (fits f (fin s 
 self_grows f u s m e t = go (round f u (m * up e) (down e)) (fits_exact f u s m e (m * up e) (down e) t (down_pos e) refl)
   where
     go : (x : Float) → HasValue x u (m * up e) (down e) → Grows (fin s m e) x
+    go nan v = elim v [ ]
+    go (inf _) v = elim v [ ]
     go (fin r n d) v = le_of_eq (sym v.1)
 
 -- a sum is at least its first term

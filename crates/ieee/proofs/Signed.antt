@@ -27,9 +27,13 @@ Is f (inf s) p n = ⊥
 Is f (fin s m e) p n = Rel (2 ^ low f) s (m * up e) (down e) p n
 
 pub is_plus : (f : Format) (x : Float) (v : ℕ) → HasValue x false v (2 ^ low f) → Is f x v 0
+is_plus f nan v h = elim h [ ]
+is_plus f (inf _) v h = elim h [ ]
 is_plus f (fin s m e) v h = rw h.0 (omega (arith, h.1))
 
 is_minus : (f : Format) (x : Float) (v : ℕ) → HasValue x false v (2 ^ low f) → Is f (resign true x) 0 v
+is_minus f nan v h = elim h [ ]
+is_minus f (inf _) v h = elim h [ ]
 is_minus f (fin s m e) v h = omega (arith, h.1)
 
 -- over a longer denominator
@@ -139,12 +143,18 @@ module _ (f : Format) (j : ℕ) (r : j < emax f) where
   pub add_near : (x y : Float) (p n p' n' : ℕ) → Is f x p n → Is f y p' n' → p + p' ≤ n + n' + 2 ^ j * 2 ^ low f
       → n + n' ≤ p + p' + 2 ^ j * 2 ^ low f → NearTo f (add f x y) (p + p') (n + n') (2 ^ (suc (j + low f) - prec f))
   unfolding add
+  add_near nan y p n p' n' a b h k = elim a [ ]
+  add_near (inf _) y p n p' n' a b h k = elim a [ ]
+  add_near (fin s m e) nan p n p' n' a b h k = elim b [ ]
+  add_near (fin s m e) (inf _) p n p' n' a b h k = elim b [ ]
   add_near (fin s m e) (fin t l d) p n p' n' a b h k =
       let z = sum_is f s t _ _ _ p n p' n' (first f s t m l e d p n p' n' a b) (second f s t m l e d p n p' n' a b) in
       rw z.is (rounded f j r z.u z.d (down e * down d) (p + p') (n + n') (downs_pos e d) z.rel h k)
 
   neg_is : (x : Float) (p n : ℕ) → Is f x p n → Is f (neg x) n p
   unfolding neg
+  neg_is nan p n a = elim a [ ]
+  neg_is (inf _) p n a = elim a [ ]
   neg_is (fin false m e) p n a = a
   neg_is (fin true m e) p n a = a
 
@@ -177,12 +187,20 @@ below_false L s t a b c p n p' n' C e d z = le_of_mul-le-mul_right (go s t e d z
 module _ (f : Format) where
   pub lt_true : (x y : Float) (p n p' n' : ℕ) → Is f x p n → Is f y p' n' → lt x y ≡ true → p + n' < p' + n
   unfolding lt
+  lt_true nan y p n p' n' a b z = elim a [ ]
+  lt_true (inf _) y p n p' n' a b z = elim a [ ]
+  lt_true (fin s m e) nan p n p' n' a b z = elim b [ ]
+  lt_true (fin s m e) (inf _) p n p' n' a b z = elim b [ ]
   lt_true (fin s m e) (fin t l d) p n p' n' a b z =
       below_true (2 ^ low f) s t _ _ _ p n p' n' (pow_pos (low f))
       (first f s t m l e d p n p' n' a b) (second f s t m l e d p n p' n' a b) z
 
   pub lt_false : (x y : Float) (p n p' n' : ℕ) → Is f x p n → Is f y p' n' → lt x y ≡ false → p' + n ≤ p + n'
   unfolding lt
+  lt_false nan y p n p' n' a b z = elim a [ ]
+  lt_false (inf _) y p n p' n' a b z = elim a [ ]
+  lt_false (fin s m e) nan p n p' n' a b z = elim b [ ]
+  lt_false (fin s m e) (inf _) p n p' n' a b z = elim b [ ]
   lt_false (fin s m e) (fin t l d) p n p' n' a b z =
       below_false (2 ^ low f) s t _ _ _ p n p' n' (downs_pos e d)
       (first f s t m l e d p n p' n' a b) (second f s t m l e d p n p' n' a b) z

@@ -59,6 +59,8 @@ round_not_neg f s a c C (inr p) =
     rw (p, round_same f s 0 c 0 1 C (zero-lt-suc 0) (sym (zero-mul c)), zero_round f s) (inr refl)
 
 pub value_not_neg : (x : Float) (a c : ℕ) → HasValue x false a c → NotNeg x
+value_not_neg nan a c v = elim v [ ]
+value_not_neg (inf _) a c v = elim v [ ]
 value_not_neg (fin s m e) a c v = inl v.0
 
 -- ---- sums
