@@ -23,9 +23,13 @@ level_sign s (inf t) = refl
 level_sign s (fin t m e) = refl
 
 pub under_sign : (s : Bool) (x : Float) (A : ℕ) → Under (resign s x) A → Under x A
+under_sign s nan A u = elim u [ ]
+under_sign s (inf _) A u = elim u [ ]
 under_sign s (fin t m e) A u = u
 
 bound : (x : Float) (A : ℕ) → Under x A → num x ≤ A * den x
+bound nan A u = elim u [ ]
+bound (inf _) A u = elim u [ ]
 bound (fin s m e) A u = u
 
 -- half of one more than the whole part of n / d is (n + d) / 2d

@@ -8,7 +8,7 @@ use native.Mathlib.Nat.{eq-or-lt_of_le}
 use native.Mathlib.Omega.{arith}
 use lib.Dec.{lit≤}
 use lib.Pow.{pow-add, pow_pos, pow_mono}
-use lib.Ieee.{Float, inf, fin, binary32, binary64, up, down, round, of_fields, of_bits}
+use lib.Ieee.{Float, inf, fin, binary32, binary64, up, down, round, of_fields, of_bits, nan}
 use lib.Ieee.Fits.{down_pos}
 use lib.Ieee.Exact.{HasValue}
 use lib.Ieee.Nearest.{closest}
@@ -19,6 +19,8 @@ use Rattle.samples.proofs.Kept.{kept_bits, huge, tiny}
 
 -- by any fraction that x equals
 narrow_at : (x : Float) (a c : ℕ) → 0 < c → HasValue x false a c → narrow_of x ≡ round binary32 false a c
+narrow_at nan a c C v = elim v [ ]
+narrow_at (inf _) a c C v = elim v [ ]
 narrow_at (fin t m e) a c C v = rw v.0 (round_same binary32 false (m * up e) (down e) a c (down_pos e) C v.1)
 
 powers : (m i p q r l : ℕ) → i + (p + q) ≡ r + l → m * 2 ^ i * (2 ^ p * 2 ^ q) ≡ m * 2 ^ r * 2 ^ l

@@ -8,7 +8,7 @@ use native.Mathlib.Omega.{arith}
 use lib.Dec.{eqb, lit≤}
 use lib.Pow.{pow_mono}
 use lib.ListN.{length, get_or, get_or-map}
-use lib.Ieee.{Float, nan, fin, binary32, le, of_bits}
+use lib.Ieee.{Float, nan, fin, binary32, le, of_bits, inf}
 use lib.Ieee.Positive.{num, den, den_pos}
 use borrow.Author.Tests.{eqb-true}
 use Rattle.lists.proofs.Choice.{and_l, and_r}
@@ -47,6 +47,8 @@ pub rounded_le : (n d A : ℕ) → 0 < d → n ≤ A * d → (2 * n + d) / (2 * 
 rounded_le n d A D h = le_of_suc-le-suc ((div-lt_iff_lt-mul (mul-pos (zero-lt-suc 1) D)).1 (omega arith))
 
 pub level_within : (x : Float) (A : ℕ) → Under x A → level_of x ≤ A
+level_within nan A h = elim h [ ]
+level_within (inf _) A h = elim h [ ]
 level_within (fin s m e) A h = rounded_le (num (fin s m e)) (den (fin s m e)) A (den_pos (fin s m e)) h
 
 -- a sample is at most the top level of its depth, and so is its level

@@ -33,12 +33,18 @@ none (fin false m k) e = absurd (false≢true (sym e ∙ rw (eq-eqb (m * up k * 
 
 pub under_number : (x : Float) (A : ℕ) → Under x A → T (not (is_nan x))
 unfolding is_nan
+under_number nan A u = elim u [ ]
+under_number (inf _) A u = elim u [ ]
 under_number (fin s m e) A u = tt
 
 -- ---- two floats that fit and have one value are the same
 same_bits : (f : Format) (x y : Float) (s : Bool) (a c : ℕ) → 0 < c → HasValue x s a c → HasValue y s a c
     → to_bits f x ≡ to_bits f y
 unfolding to_bits
+same_bits f nan y s a c C v w = elim v [ ]
+same_bits f (inf _) y s a c C v w = elim v [ ]
+same_bits f (fin t m e) nan s a c C v w = elim w [ ]
+same_bits f (fin t m e) (inf _) s a c C v w = elim w [ ]
 same_bits f (fin t m e) (fin u n g) s a c C v w =
     let l = 2 ^ low f in
     let through : m * up e * down g ≡ n * up g * down e =

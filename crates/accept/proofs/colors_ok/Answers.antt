@@ -12,7 +12,7 @@ use Rattle.accept.proofs.colors_ok.Goals as goal
 
 -- More than eight colours are none, else they are the first n. Assumes nothing.
 eight : (c : goal.Start) → length c.args.colors ≡ 8
-eight c = good_length (e_int w16) 8 c.args.colors _ c.well-formed.0
+eight c = good_length (e_int w16) 8 c.args.colors _ c.well_formed.0
 
 two_to_eight : (c : goal.Then-within) → (2 ≤ c.args.n) × (c.args.n ≤ 8)
 two_to_eight c = within_at _ _ _ (sym c.within.ensures ∙ c.if-within.true)

@@ -25,22 +25,22 @@ abbrev given : tie.Start → Palette
 given c = palette_of c.args.colors c.args.n c.args.transposed c.args.map.now c.args.flags.now
 
 eight : (s : tie.Start) → length s.args.colors ≡ 8
-eight s = good_length (e_int w16) 8 s.args.colors _ s.well-formed.1.1.1.0
+eight s = good_length (e_int w16) 8 s.args.colors _ s.well_formed.1.1.1.0
 
 -- the tests that were passed
 sides : (c : tie.Else-not-sides_ok) → sides_ok (start c).args.width (start c).args.height ≡ true
-sides c = sym c.before.sides_ok.ensures ∙ not-false _ c.if-not-sides_ok.false
+sides c = sym c.before.sides_ok.ensures ∙ c.if-not-sides_ok.false
 
 depth : (c : tie.Else-not-within) → depth_ok (start c.before.before).args.bd ≡ true
 unfolding depth_ok
-depth c = sym c.before.within.ensures ∙ not-false _ c.if-not-within.false
+depth c = sym c.before.within.ensures ∙ c.if-not-within.false
 
 colors : (c : tie.Else-not-colors_ok) → let s = start c.before.before.before.before in colors_ok s.args.bd (given s).colors ≡ true
-colors c = sym c.before.colors_ok.ensures ∙ not-false _ c.if-not-colors_ok.false
+colors c = sym c.before.colors_ok.ensures ∙ c.if-not-colors_ok.false
 
 orient : (c : tie.Else-not-orient_ok) → let a = (start c.before.before.before.before.before.before).args in
     orient_ok a.width a.height a.transposed ≡ true
-orient c = sym c.before.orient_ok.ensures ∙ not-false _ c.if-not-orient_ok.false
+orient c = sym c.before.orient_ok.ensures ∙ c.if-not-orient_ok.false
 
 cache : (c : tie.Else-cached-gt64) → cache_ok (start c.before.before.before.before.before.before.before).args.cached ≡ true
 unfolding cache_ok
@@ -60,7 +60,7 @@ rest c =
 counts : (c : tie.Else-not-counts_ok) → let s = start c.before.before.before.before.before.before.before.before.before in
     counts_ok s.args.width s.args.height (given s) ≡ true
 unfolding counts_ok
-counts c = sym c.before.counts_ok.ensures ∙ not-false _ c.if-not-counts_ok.false
+counts c = sym c.before.counts_ok.ensures ∙ c.if-not-counts_ok.false
 
 -- what the test of the indices says
 indices : (c : tie.After-indices_ok) (b : Bool) → c.indices_ok.result ≡ b
@@ -76,14 +76,14 @@ sides-ok-requires c κs = search rules
 
 returns : tie.Need-returns-then-not-sides_ok
 unfolding refusal
-returns c = rw (sym c.before.sides_ok.ensures ∙ not-true _ c.if-not-sides_ok.true) refl
+returns c = rw (sym c.before.sides_ok.ensures ∙ c.if-not-sides_ok.true) refl
 
 within-requires : tie.Need-within-requires
 within-requires c κs = search rules
 
 returns-2 : tie.Need-returns-then-not-within
 unfolding refusal depth_ok
-returns-2 c = rw (sides c.before.before, sym c.before.within.ensures ∙ not-true _ c.if-not-within.true) refl
+returns-2 c = rw (sides c.before.before, sym c.before.within.ensures ∙ c.if-not-within.true) refl
 
 colors-ok-requires : tie.Need-colors_ok-requires
 unfolding depth_ok
@@ -93,7 +93,7 @@ returns-3 : tie.Need-returns-then-not-colors_ok
 unfolding refusal
 returns-3 c =
     let second = c.before.before in
-    rw (sides second.before.before, depth second, sym c.before.colors_ok.ensures ∙ not-true _ c.if-not-colors_ok.true) refl
+    rw (sides second.before.before, depth second, sym c.before.colors_ok.ensures ∙ c.if-not-colors_ok.true) refl
 
 orient-ok-requires : tie.Need-orient_ok-requires
 orient-ok-requires c κs = search rules
@@ -103,7 +103,7 @@ unfolding refusal
 returns-4 c =
     let third = c.before.before in
     let second = third.before.before in
-    rw (sides second.before.before, depth second, colors third, sym c.before.orient_ok.ensures ∙ not-true _ c.if-not-orient_ok.true) refl
+    rw (sides second.before.before, depth second, colors third, sym c.before.orient_ok.ensures ∙ c.if-not-orient_ok.true) refl
 
 returns-5 : tie.Need-returns-then-cached-gt64
 unfolding refusal cache_ok
@@ -121,7 +121,7 @@ counts-ok-requires c κs =
 
 returns-6 : tie.Need-returns-then-not-counts_ok
 unfolding counts_ok
-returns-6 c = sym (rest c.before.before ∙ rw (sym c.before.counts_ok.ensures ∙ not-true _ c.if-not-counts_ok.true) refl)
+returns-6 c = sym (rest c.before.before ∙ rw (sym c.before.counts_ok.ensures ∙ c.if-not-counts_ok.true) refl)
 
 cast-indices-ok : tie.Need-overflow_cast-n
 cast-indices-ok c =
@@ -136,7 +136,7 @@ returns-7 : tie.Need-returns-then-not-indices_ok
 unfolding map_ok
 returns-7 c =
     sym (rest c.before.before.before.before
-    ∙ rw (counts c.before.before, indices c.before false (not-true _ c.if-not-indices_ok.true)) refl)
+    ∙ rw (counts c.before.before, indices c.before false c.if-not-indices_ok.true) refl)
 
 lines-ok-requires : tie.Need-lines_ok-requires
 lines-ok-requires c κs = counts_at _ _ _ (counts c.before.before)
@@ -145,17 +145,17 @@ returns-8 : tie.Need-returns-then-not-lines_ok
 unfolding map_ok
 returns-8 c =
     let tested = c.before.before in
-    let below = indices tested.before true (not-false _ tested.if-not-indices_ok.false) in
+    let below = indices tested.before true tested.if-not-indices_ok.false in
     sym (rest tested.before.before.before.before
-    ∙ rw (counts tested.before.before, below, sym c.before.lines_ok.ensures ∙ not-true _ c.if-not-lines_ok.true) refl)
+    ∙ rw (counts tested.before.before, below, sym c.before.lines_ok.ensures ∙ c.if-not-lines_ok.true) refl)
 
 returns-9 : tie.Need-returns
 unfolding map_ok
 returns-9 c =
     let tested = c.before.before in
-    let below = indices tested.before true (not-false _ tested.if-not-indices_ok.false) in
+    let below = indices tested.before true tested.if-not-indices_ok.false in
     sym (rest tested.before.before.before.before
-    ∙ rw (counts tested.before.before, below, sym c.before.lines_ok.ensures ∙ not-false _ c.if-not-lines_ok.false) refl)
+    ∙ rw (counts tested.before.before, below, sym c.before.lines_ok.ensures ∙ c.if-not-lines_ok.false) refl)
 
 pub fault_spec : {M : Type 1} → statement M
 fault_spec =

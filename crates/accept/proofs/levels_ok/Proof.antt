@@ -24,7 +24,7 @@ abbrev decreases-loop : tie.decreases-loop-i
 decreases-loop n bd colors top last₀ i₀ last i = n - i
 
 room : (c : tie.Start invariant-loop decreases-loop) → c.args.n ≤ length c.args.t1
-room c = omega (arith, c.requires.1, good_length (e_int w16) 8 c.args.t1 _ c.well-formed.0)
+room c = omega (arith, c.requires.1, good_length (e_int w16) 8 c.args.t1 _ c.well_formed.0)
 
 first : (c : tie.Start invariant-loop decreases-loop) → let a = c.args in let x = get_or a.t1 0 0 in
     levels_ok a.bd (take a.n a.t1) ≡ leb x (2 ^ a.bd - 1) && levels_after a.bd x (drop 1 (take a.n a.t1))
@@ -68,7 +68,7 @@ between-requires : tie.Need-between-requires invariant-loop decreases-loop
 between-requires c κs = search rules
 
 returns-2 : tie.Need-returns-then-not-between invariant-loop decreases-loop
-returns-2 c = rw (following c.before, not-true c.before.between.result c.if-not-between.true) at c.before.before.before.loop-i.invariant.2
+returns-2 c = rw (following c.before, c.if-not-between.true) at c.before.before.before.loop-i.invariant.2
 
 add-i : tie.Need-overflow_add-i invariant-loop decreases-loop
 add-i c = search rules
@@ -80,7 +80,7 @@ loop-again : tie.Need-loop-i-preserved invariant-loop decreases-loop
 loop-again c = (
   search rules,
   search rules,
-  rw (following c.before, not-false c.before.between.result c.if-not-between.false) at c.before.before.before.loop-i.invariant.2,
+  rw (following c.before, c.if-not-between.false) at c.before.before.before.loop-i.invariant.2,
 )
 
 returns-3 : tie.Need-returns invariant-loop decreases-loop

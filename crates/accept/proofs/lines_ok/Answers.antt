@@ -20,10 +20,10 @@ line_ok-requires c = (c.requires.map_len, omega (arith, c.loop-l-test.true, c.re
 pub returns-then-not-line_ok : goal.returns-then-not-line_ok
 returns-then-not-line_ok c =
     sym (all_below_not _ _ c.loop-l.l (omega (arith, c.loop-l-test.true, c.requires.flags_len))
-    (sym c.line_ok.ensures ∙ not-true _ c.if-not-line_ok.true))
+    (sym c.line_ok.ensures ∙ c.if-not-line_ok.true))
 
 pub loop-l-preserved : goal.loop-l-preserved
-loop-l-preserved c = (search rules, below_more _ _ c.loop-l.invariant.1 (sym c.line_ok.ensures ∙ not-false _ c.if-not-line_ok.false))
+loop-l-preserved c = (search rules, below_more _ _ c.loop-l.invariant.1 (sym c.line_ok.ensures ∙ c.if-not-line_ok.false))
 
 pub returns : goal.returns
 returns c = sym (all_below_of _ _ (λ k h. c.loop-l.invariant.1 k (omega (arith, c.loop-l-test.false, c.requires.flags_len))))

@@ -13,7 +13,7 @@ returns-then-k-lt1 c = simp (lt-ltb _ _ c.if-k-lt1.true) at (by_place_is _ c.req
 
 pub returns-then-k-lt7 : goal.returns-then-k-lt7
 returns-then-k-lt7 c =
-    c.«y-size-icdf».ensures
+    c.y_size_icdf.ensures
     ∙ simp (le-ltb _ _ c.if-k-lt1.false, lt-ltb _ _ c.if-k-lt7.true) at (by_place_is _ c.requires.1)
 
 pub returns-then-k-lt15 : goal.returns-then-k-lt15

@@ -93,7 +93,7 @@ loop-i-init c =
     record {
       seen = search rules;
       few = c.requires.n_bound.0;
-      count = sym (length-take-le c.args.n c.args.colors (omega (arith, c.requires.n_bound.0, good_length (e_int w16) 8 c.args.colors _ c.well-formed.0)));
+      count = sym (length-take-le c.args.n c.args.colors (omega (arith, c.requires.n_bound.0, good_length (e_int w16) 8 c.args.colors _ c.well_formed.0)));
       rising = c.requires.n_bound.1;
       size = refl;
       place = refl;

@@ -27,7 +27,7 @@ abbrev decreases-loop : tie.decreases-loop-i
 decreases-loop count level colors left₀ k₀ i₀ left k i = count - i
 
 room : (c : tie.Start invariant-loop decreases-loop) → c.args.count ≤ length c.args.t1
-room c = omega (arith, c.requires.0, good_length (e_int w16) 8 c.args.t1 _ c.well-formed.0)
+room c = omega (arith, c.requires.0, good_length (e_int w16) 8 c.args.t1 _ c.well_formed.0)
 
 module _ (c : tie.In-loop-i invariant-loop decreases-loop) where
   abbrev e : ℕ

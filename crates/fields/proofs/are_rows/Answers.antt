@@ -15,14 +15,14 @@ pub returns-then-not-is_line : goal.returns-then-not-is_line
 unfolding are_rows
 returns-then-not-is_line c =
     let l = c.loop-y in
-    let e = sym c.is_line.ensures ∙ not-true c.is_line.result c.if-not-is_line.true in
+    let e = sym c.is_line.ensures ∙ c.if-not-is_line.true in
     rw e at (rw (one_left c.args.h l.y c.loop-y-test.true) at l.invariant.2)
 
 pub loop-y-preserved : goal.loop-y-preserved
 unfolding are_rows
 loop-y-preserved c =
     let l = c.loop-y in
-    let e = sym c.is_line.ensures ∙ not-false c.is_line.result c.if-not-is_line.false in (
+    let e = sym c.is_line.ensures ∙ c.if-not-is_line.false in (
       omega (arith, c.loop-y-test.true),
       omega (arith, l.invariant.1, c.requires.0),
       rw e at (rw (one_left c.args.h l.y c.loop-y-test.true) at l.invariant.2),

@@ -15,14 +15,14 @@ pub returns-then-not-number_up_to : goal.returns-then-not-number_up_to
 unfolding is_line
 returns-then-not-number_up_to c =
     let l = c.loop-i in
-    let e = (rw (c.number_up_to.ensures, c.field_at-f.ensures) at (not-true c.number_up_to.result c.if-not-number_up_to.true)) in
+    let e = (rw (c.number_up_to.ensures, c.field_at-f.ensures) at c.if-not-number_up_to.true) in
     rw e at (rw (one_left c.args.k l.i c.loop-i-test.true) at l.invariant.2)
 
 pub loop-i-preserved : goal.loop-i-preserved
 unfolding is_line
 loop-i-preserved c =
     let l = c.loop-i in
-    let e = (rw (c.number_up_to.ensures, c.field_at-f.ensures) at (not-false c.number_up_to.result c.if-not-number_up_to.false)) in (
+    let e = (rw (c.number_up_to.ensures, c.field_at-f.ensures) at c.if-not-number_up_to.false) in (
       omega (arith, c.loop-i-test.true),
       omega (arith, l.invariant.1),
       rw e at (rw (one_left c.args.k l.i c.loop-i-test.true) at l.invariant.2),

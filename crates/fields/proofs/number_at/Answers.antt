@@ -4,4 +4,4 @@ use borrow.Author.Rules.{rules}
 use Rattle.fields.proofs.number_at.Goals as goal
 
 pub returns : goal.returns
-returns c = c.number_of_lem.ensures ∙ ap number_of c.field_at.ensures
+returns c = c.number_of.ensures ∙ ap number_of c.field_at.ensures

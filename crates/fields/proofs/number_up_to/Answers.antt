@@ -3,4 +3,4 @@ use borrow.Author.Rules.{rules}
 use Rattle.fields.proofs.number_up_to.Goals as goal
 
 pub returns-in-Number : goal.returns-in-Number
-returns-in-Number c = sym (rw c.f-1.given.1 refl)
+returns-in-Number c = sym (rw c.in-Number.is refl)

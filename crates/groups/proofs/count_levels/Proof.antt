@@ -73,7 +73,7 @@ loop-holds c =
 mul-level-of : tie.Need-offset_bounds-samples-i invariant-loop decreases-loop
 mul-level-of c =
     let s = c.before.before.before in
-    scaled_Fits c.before.loop-i.i (length s.args.samples.now) 4 c.loop-i-test.true s.well-formed.0.1
+    scaled_Fits c.before.loop-i.i (length s.args.samples.now) 4 c.loop-i-test.true s.well_formed.0.1
 
 shared-slice-read-level-of : tie.Need-bounds-samples-i invariant-loop decreases-loop
 shared-slice-read-level-of c = c.before.loop-i-test.true

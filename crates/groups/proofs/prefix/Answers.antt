@@ -16,7 +16,7 @@ use Rattle.groups.proofs.Sums.{sums_first, sums_length, sums_next}
 use Rattle.groups.proofs.prefix.Goals as goal
 
 full : (c : goal.Start) → length c.args.t1 ≡ 32
-full c = good_length (e_int w64) 32 c.args.t1 _ c.well-formed.0
+full c = good_length (e_int w64) 32 c.args.t1 _ c.well_formed.0
 
 pub loop-i-init : goal.loop-i-init
 loop-i-init c = (

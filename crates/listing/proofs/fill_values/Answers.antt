@@ -22,7 +22,7 @@ loop-i-preserved c = let l = c.loop-i in
     let below = c.loop-i-test.true in (
       search rules,
       length-set l.values l.i _ ∙ l.invariant.1,
-      rw (c.value_of_lem.ensures, c.color_of.ensures, l.invariant.2)
+      rw (c.value_of.ensures, c.color_of.ensures, l.invariant.2)
           (value_more (λ k. of_int binary32 (pos (get_or c.args.colors k 0))) c.args.map.now c.args.values.now l.i below c.requires.map_in_bounds),
     )
 

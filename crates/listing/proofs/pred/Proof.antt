@@ -37,7 +37,7 @@ module _ (c : tie.Else-number-ne0) where
   known = facts _ _ _ _ _ accepted
 
   eight : length (start c).args.colors ≡ 8
-  eight = good_length (e_int w16) 8 (start c).args.colors _ (start c).well-formed.1.1.1.0
+  eight = good_length (e_int w16) 8 (start c).args.colors _ (start c).well_formed.1.1.1.0
 
   count : length (first_colors (start c).args.colors (start c).args.n) ≡ (start c).args.n
   count = length_given (start c).args.colors eight (start c).args.bd (start c).args.n accepted.colors

@@ -21,7 +21,7 @@ words : (c : tie.Else-n-eq0) →
     literals c.before.before ≡ bypass c.before.before.args.bd (get_or c.before.before.args.colors 0 0) ∷ more c.before.before
 words c =
     let s = c.before.before in
-    let room = eight _ s.args.colors _ s.well-formed.0 s.requires.n_bound.0 in
+    let room = eight _ s.args.colors _ s.well_formed.0 s.requires.n_bound.0 in
     first_word s.args.n s.args.colors room s.args.bd (omega arith)
 
 returns : tie.Need-returns-then-n-eq0

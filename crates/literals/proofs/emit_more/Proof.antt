@@ -11,7 +11,7 @@ use Rattle.literals.proofs.emit_more.Statement.{statement}
 use Rattle.literals.proofs.emit_more.Tie as tie
 
 room : (s : tie.Start) → s.args.n ≤ length s.args.colors
-room s = eight _ s.args.colors _ s.well-formed.0 s.requires.n_bound.0
+room s = eight _ s.args.colors _ s.well_formed.0 s.requires.n_bound.0
 
 abbrev more : tie.Start → List ℕ
 more s = more_of s.args.colors s.args.n s.args.bd

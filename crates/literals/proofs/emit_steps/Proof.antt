@@ -22,7 +22,7 @@ abbrev decreases-loop : tie.decreases-loop-i
 decreases-loop colors n bd first out₀ at pos₀ b₀ i₀ out pos b i = n - i
 
 room : (s : tie.Start invariant-loop decreases-loop) → s.args.n ≤ length s.args.colors
-room s = eight _ s.args.colors _ s.well-formed.0 s.requires.n_bound.0
+room s = eight _ s.args.colors _ s.well_formed.0 s.requires.n_bound.0
 
 -- the step goes up, and stays within the range
 levels : (c : tie.After-level_at-to invariant-loop decreases-loop) →

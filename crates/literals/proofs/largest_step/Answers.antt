@@ -12,7 +12,7 @@ max_assoc : (a b c : ℕ) → max (max a b) c ≡ max a (max b c)
 max_assoc a b c = omega arith
 
 room : (s : goal.Start) → s.args.n ≤ length s.args.colors
-room s = eight _ s.args.colors _ s.well-formed.0 s.requires.0
+room s = eight _ s.args.colors _ s.well_formed.0 s.requires.0
 
 pub step-requires : goal.step-requires
 step-requires c =

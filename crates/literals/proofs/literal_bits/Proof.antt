@@ -12,7 +12,7 @@ use Rattle.literals.proofs.literal_bits.Statement.{statement}
 use Rattle.literals.proofs.literal_bits.Tie as tie
 
 room : (s : tie.Start) → s.args.n ≤ length s.args.colors
-room s = eight _ s.args.colors _ s.well-formed.0 s.requires.0
+room s = eight _ s.args.colors _ s.well_formed.0 s.requires.0
 
 abbrev bits : tie.Start → ℕ
 bits s = literal_bits s.args.bd (take s.args.n s.args.colors)

@@ -18,7 +18,7 @@ returns c =
     let colors = c.args.colors in
     let first = get_or colors 0 0 in
     let ds = drop 1 (take c.args.n colors) in
-    let whole = next c.args.n colors (eight _ c.args.colors _ c.well-formed.0 c.requires.1) 0 c.requires.0 in
+    let whole = next c.args.n colors (eight _ c.args.colors _ c.well_formed.0 c.requires.1) 0 c.requires.0 in
     let bits : c.greater.result ≡ step_bits bd first ds =
     rw (c.greater.ensures, c.ceil_log2.ensures, c.largest_step.ensures) refl in
     (bits, rw bits (step_bits_least bd first ds), rw bits (step_bits_most bd first ds (rw whole at c.requires.3)))

@@ -10,7 +10,7 @@ use Rattle.literals.proofs.Widths.{cut_bits_le}
 use Rattle.literals.proofs.steps_width.Goals as goal
 
 room : (s : goal.Start) → s.args.n ≤ length s.args.colors
-room s = eight _ s.args.colors _ s.well-formed.0 s.requires.0
+room s = eight _ s.args.colors _ s.well_formed.0 s.requires.0
 
 pub cut_bits-b-requires : goal.cut_bits-b-requires
 cut_bits-b-requires c =

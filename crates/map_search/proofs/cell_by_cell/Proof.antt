@@ -36,7 +36,7 @@ done c k =
 
 -- row, as each f32 that is handed over, is one
 held : (s : tie.Start invariant-loop decreases-loop) → T (fits binary32 s.args.row)
-held s = subst T (sym s.well-formed.1.1.1.1.1.1.1.1.0.1) tt
+held s = subst T (sym s.well_formed.1.1.1.1.1.1.1.1.0.1) tt
 
 below : (c : tie.In-loop-a invariant-loop decreases-loop) → Below c.before.before.loop-a.map (start c).args.n
 below c =

@@ -40,7 +40,7 @@ module _ (count : ℕ) (colors : List ℕ) (e : ℕ) (out : List ℕ) (carry i :
       rw same at last ∙ written_front (replicate 8 0) (insert e (take count colors)) few
 
 room : (c : goal.Start) → c.args.count ≤ length c.args.t1
-room c = omega (arith, c.requires, good_length (e_int w16) 8 c.args.t1 _ c.well-formed.0)
+room c = omega (arith, c.requires, good_length (e_int w16) 8 c.args.t1 _ c.well_formed.0)
 
 pub loop-i-init : goal.loop-i-init
 loop-i-init c = record { seen = search rules; eight = refl; put = refl }

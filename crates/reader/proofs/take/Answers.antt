@@ -12,10 +12,10 @@ overflow_add-at c =
 
 pub returns-in-Second : goal.returns-in-Second
 returns-in-Second c =
-    rw c.taken_by.ensures (took_second _ _ _ _ _ _ (rw c.second-1.given.1 at c.step_in.ensures))
+    rw c.taken_by.ensures (took_second _ _ _ _ _ _ (rw c.in-Second.is at c.step_in.ensures))
 
 pub returns-in-Ended : goal.returns-in-Ended
-returns-in-Ended c = rw c.taken_by-in-Ended.ensures (took_ended _ _ _ _ _ (rw c.enum_told-1.given.1 at c.step_in.ensures))
+returns-in-Ended c = rw c.taken_by-in-Ended.ensures (took_ended _ _ _ _ _ (rw c.in-Ended.is at c.step_in.ensures))
 
 pub returns-in-Wrong : goal.returns-in-Wrong
-returns-in-Wrong c = rw c.taken_by-in-Wrong.ensures (took_wrong _ _ _ _ _ (rw c.enum_told-in-Wrong-1.given.1 at c.step_in.ensures))
+returns-in-Wrong c = rw c.taken_by-in-Wrong.ensures (took_wrong _ _ _ _ _ (rw c.in-Wrong.is at c.step_in.ensures))

@@ -54,8 +54,7 @@ returns c =
     let p = made b c.args.cache.now c.args.words.now (length c.args.map.now) (length c.args.flags.now) c.requires.headed
     g.new.map g.new.flags in
     let same = sym
-    c.relists-listed.ensures ∙ not-false _
-    c.if-not-listed.false in
+    c.relists-listed.ensures ∙ c.if-not-listed.false in
     reads_back _ p _ _ _ _ _
     (listed_back b.width b.height b.bd c.args.cache.now p (length c.args.map.now) (length c.args.flags.now) c.args.words.now
     c.requires.headed.passed same)

@@ -112,7 +112,7 @@ returns-3 c =
     let far = c.before.before.before.before.before.before.before.before.before.before in
     let r = far.before.before.before.before.before.before in
     let s = r.before.before.before.before.before.before.before.before.before.before.before in
-    let other = sym c.before.before.before.before.relists.ensures ∙ not-true _ c.before.if-not-relists.true in
+    let other = sym c.before.before.before.before.relists.ensures ∙ c.before.if-not-relists.true in
     reads_refused _ _ _ _ _
     (settled_other s.args.b.width s.args.b.height s.args.b.bd s.args.cache.now (length s.args.map.now)
     (length s.args.flags.now) s.args.words.now s.requires.headed.passed _ r.read_lines-place.result (told_palette r)
@@ -147,8 +147,7 @@ returns-4 c =
     let r = far.before.before.before.before.before.before.before.before.before.before.before.before in
     let s = r.before.before.before.before.before.before.before.before.before.before.before in
     let same = sym
-    far.relists.ensures ∙ not-false _
-    c.before.before.before.before.before.before.before.before.before.if-not-relists.false in
+    far.relists.ensures ∙ c.before.before.before.before.before.before.before.before.before.if-not-relists.false in
     reads_back _ (made s.args.b s.args.cache.now s.args.words.now (length s.args.map.now) (length s.args.flags.now)
     s.requires.headed r.read_lines-place.new.map r.read_lines-place.new.flags) _ _ _ _ _
     (settled_back s.args.b.width s.args.b.height s.args.b.bd s.args.cache.now (length s.args.map.now)

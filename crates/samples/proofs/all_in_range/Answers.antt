@@ -21,7 +21,7 @@ loop-i-init c = (omega arith, refl)
 
 pub offset_bounds-xs-i : goal.offset_bounds-xs-i
 offset_bounds-xs-i c =
-    scaled_Fits c.loop-i.i (length c.args.xs.now) 4 c.loop-i-test.true c.well-formed.0.1
+    scaled_Fits c.loop-i.i (length c.args.xs.now) 4 c.loop-i-test.true c.well_formed.0.1
 
 pub bounds-xs-i : goal.bounds-xs-i
 bounds-xs-i c = c.loop-i-test.true

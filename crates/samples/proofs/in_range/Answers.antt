@@ -21,7 +21,7 @@ pub returns-then-x-top : goal.returns-then-x-top
 returns-then-x-top c =
     let x = c.args.x in
     let below : le x (nat binary32 c.args.top) ≡ true = c.if-x-top.true in
-    sign_bits x (subst T (sym c.well-formed.0.1) tt) (number_below x _ below) ∙ sym (rw below (and-true (le (of_bits binary32 0) x)))
+    sign_bits x (subst T (sym c.well_formed.0.1) tt) (number_below x _ below) ∙ sym (rw below (and-true (le (of_bits binary32 0) x)))
 
 pub returns : goal.returns
 returns c =

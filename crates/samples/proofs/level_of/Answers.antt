@@ -32,7 +32,7 @@ module _ (x : Float) (f : T (fits binary32 x)) where
       (subst (λ z. Under z 4095) unsigned u)
 
 held : (c : goal.Start) → T (fits binary32 c.args.x)
-held c = subst T (sym c.well-formed.0.1) tt
+held c = subst T (sym c.well_formed.0.1) tt
 
 pub float_to_bits-b : goal.float_to_bits-b
 float_to_bits-b c = under_number c.args.x 4095 c.requires.0

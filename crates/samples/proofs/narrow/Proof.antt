@@ -40,7 +40,7 @@ no_nan b r h k =
     subst (λ z. T (not z)) (sym (nan_bits_above binary32 c ∙ ap (ltb 2139095040) e ∙ le-ltb 2139095040 r k)) tt
 
 held : (c : tie.Start) → T (fits binary64 c.args.x)
-held c = subst T (sym c.well-formed.0.1) tt
+held c = subst T (sym c.well_formed.0.1) tt
 
 float-to-bits-b : tie.Need-float_to_bits-b
 float-to-bits-b c = subst (λ z. T (not z)) (sym (number c.before.args.x c.if-x.true)) tt

@@ -10,4 +10,4 @@ use Rattle.search.proofs.values.Goals as goal
 
 pub returns : goal.returns
 returns c =
-    ap (map (nat binary32)) (eight_places c.args.t1 (good_length (e_int w16) 8 c.args.t1 _ c.well-formed.0))
+    ap (map (nat binary32)) (eight_places c.args.t1 (good_length (e_int w16) 8 c.args.t1 _ c.well_formed.0))

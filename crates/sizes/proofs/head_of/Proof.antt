@@ -57,7 +57,7 @@ returns : tie.Need-returns
 returns c =
     let s = c.before.before.before.before.before.before.before.before in
     let a = s.args in
-    let eight : length a.colors ≡ 8 = good_length (e_int w16) 8 a.colors _ s.well-formed.1.1.0 in
+    let eight : length a.colors ≡ 8 = good_length (e_int w16) 8 a.colors _ s.well_formed.1.1.0 in
     head_is a.costs.now a.b (take a.n a.colors) a.n _ _
     (length-take-le a.n a.colors (omega arith))
     c.before.before.before.before.before.before.literal_bits-literal.ensures.0

@@ -9,4 +9,4 @@ use borrow.Author.Rules.{rules}
 use Rattle.station.proofs.in_fields.Goals as goal
 
 pub returns : goal.returns
-returns c = ap (λ (xs : List ℕ). c.args.n ∷ (xs ++ (bit c.args.transposed ∷ []))) (eight_places c.args.t2 (good_length (e_int w16) 8 c.args.t2 _ c.well-formed.1.0))
+returns c = ap (λ (xs : List ℕ). c.args.n ∷ (xs ++ (bit c.args.transposed ∷ []))) (eight_places c.args.t2 (good_length (e_int w16) 8 c.args.t2 _ c.well_formed.1.0))

@@ -10,8 +10,8 @@ use Rattle.station.proofs.in_words.Goals as goal
 
 pub returns : goal.returns
 returns c =
-    let order = good_length (e_int w8) 8 c.args.order _ c.well-formed.1.0 in
-    let ranks = good_length (e_int w8) 8 c.args.ranks _ c.well-formed.1.1.0 in
+    let order = good_length (e_int w8) 8 c.args.order _ c.well_formed.1.0 in
+    let ranks = good_length (e_int w8) 8 c.args.ranks _ c.well_formed.1.1.0 in
     let one : c.put.result ≡ written (c.args.ctx ∷ replicate 16 0) 1 c.args.order = c.put.ensures in
     let both : c.put-2.result ≡ written c.put.result 9 c.args.ranks = c.put-2.ensures in
     both ∙ rw one (one_and_eights c.args.ctx _ _ order ranks)

@@ -15,4 +15,4 @@ overflow_cast-found c =
 
 pub returns : goal.returns
 returns c = let e = c.color_ctx-found.ensures in
-    record { value = ap (λ (a : Context). a.number) e; context_after = c.in_words_lem.ensures ∙ ap context_words e }
+    record { value = ap (λ (a : Context). a.number) e; context_after = c.in_words.ensures ∙ ap context_words e }

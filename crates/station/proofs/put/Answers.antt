@@ -13,10 +13,10 @@ use Prim.Native.Nat.{◌≤◌, ◌<◌, ◌+◌, ◌-◌}
 use Rattle.station.proofs.put.Goals as goal
 
 eight : (c : goal.Start) → length c.args.t3 ≡ 8
-eight c = good_length (e_int w8) 8 c.args.t3 _ c.well-formed.1.1.0
+eight c = good_length (e_int w8) 8 c.args.t3 _ c.well_formed.1.1.0
 
 pub loop-i-init : goal.loop-i-init
-loop-i-init c = (search rules, good_length (e_int w32) 17 c.args.words _ c.well-formed.0, rw add-zero refl)
+loop-i-init c = (search rules, good_length (e_int w32) 17 c.args.words _ c.well_formed.0, rw add-zero refl)
 
 pub loop-i-preserved : goal.loop-i-preserved
 unfolding written

@@ -27,7 +27,7 @@ number-at-requires c κs = search rules
 returns : tie.Need-returns-then-not-is_line-number_at
 unfolding text_number
 returns c =
-    let formed = form c.before _ (not-true _ c.if-not-is_line-number_at.true) in
+    let formed = form c.before _ c.if-not-is_line-number_at.true in
     sym (rw formed refl)
 
 header-fault-requires : tie.Need-header_fault-fault-requires
@@ -36,7 +36,7 @@ header-fault-requires c κs = search rules
 returns-2 : tie.Need-returns-then-fault-ne0
 unfolding text_number
 returns-2 c =
-    let formed = form c.before.before.before _ (not-false _ c.before.before.if-not-is_line-number_at.false) in
+    let formed = form c.before.before.before _ c.before.before.if-not-is_line-number_at.false in
     let fault = c.before.header_fault-fault.ensures in
     fault ∙ rw (← c.before.before.before.before.before.before.requires.0) (sym (simp (formed, ne_eqb _ _ (λ z. c.if-fault-ne0.true (fault ∙ z)))))
 
@@ -46,7 +46,7 @@ is-body-requires c κs = (sound _ (sym c.before.header_fault-fault.ensures ∙ c
 returns-3 : tie.Need-returns-then-is_body
 unfolding text_number
 returns-3 c =
-    let formed = form c.before.before.before.before.before _ (not-false _ c.before.before.before.before.if-not-is_line-number_at.false) in
+    let formed = form c.before.before.before.before.before _ c.before.before.before.before.if-not-is_line-number_at.false in
     let fault = sym c.before.before.before.header_fault-fault.ensures ∙ c.before.before.if-fault-ne0.false in
     rw (← c.before.before.before.before.before.before.before.before.requires.0)
     (sym (simp (formed, eq-eqb _ _ fault, sym c.before.is_IsBody.ensures ∙ c.if-is_body.true)))
@@ -54,7 +54,7 @@ returns-3 c =
 returns-4 : tie.Need-returns
 unfolding text_number
 returns-4 c =
-    let formed = form c.before.before.before.before.before _ (not-false _ c.before.before.before.before.if-not-is_line-number_at.false) in
+    let formed = form c.before.before.before.before.before _ c.before.before.before.before.if-not-is_line-number_at.false in
     let fault = sym c.before.before.before.header_fault-fault.ensures ∙ c.before.before.if-fault-ne0.false in
     rw (← c.before.before.before.before.before.before.before.before.requires.0)
     (sym (simp (formed, eq-eqb _ _ fault, sym c.before.is_IsBody.ensures ∙ c.if-is_body.false)))
