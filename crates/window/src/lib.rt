@@ -1,10 +1,13 @@
-// A window on standard input: what was taken is dropped from its front, and more is read behind the rest.
+// A window on an input: what was taken is dropped from its front, and more is read behind the rest.
 // Open to programs only: each function requires places within the buffer.
 #![tactic(auto)]
 
-ghost use Rattle.std.specs.Prelude.{◌≡◌, ◌-◌, ◌≤◌, length, take, drop};
+ghost use Rattle.std.specs.Prelude.{◌≡◌, ◌-◌, ◌≤◌, length, take, drop, IfOk, OnErr};
 ghost use Rattle.lists.specs.Written.{written};
 ghost use Rattle.window.specs.Window.{unread, view, Inside, Holds};
+
+use std::io;
+use std::io::Read;
 
 // The bytes from `at` up to `end` are before the program, and there may be more while `more`.
 #[derive(Drop)]
@@ -40,29 +43,37 @@ fn move_down(buf: &mut [u8], at: usize, end: usize) -> usize
     count
 }
 
-// Moves what is before the program to the front and reads behind it; returns how many bytes are then there.
-fn refill(buf: &mut [u8], w: Window) -> usize
+// Moves what is before the program to the front and reads behind it; returns how many bytes are then there. An error too
+// leaves at the front what was before the program.
+fn refill<R: Read>(input: &mut R, buf: &mut [u8], w: Window) -> io::Result<usize>
     requires { Inside w buf.old }
-    ensures lower_bound { (w.end - w.at ≤ result) × (result ≤ length buf.old) }
+    ensures lower_bound { IfOk result (λ n. (w.end - w.at ≤ n) × (n ≤ length buf.old)) }
     ensures buf_after { take (w.end - w.at) buf.new ≡ view w buf.old }
 {
     let left = move_down(buf, w.at, w.end);
-    let read = io::read_full(0, &mut buf[left..]);
-    left + read
+    let read = input::read_full(input, &mut buf[left..])?;
+    Ok(left + read)
 }
 
 // Reads more unless `need` bytes are before the program. A read that does not fill the buffer has met the input's end.
-pub fn hold(buf: &mut [u8], w: Window, need: usize) -> Window
+// After an error what was before the program stands at the buffer's front, and what was read of the input is lost.
+pub fn hold<R: Read>(
+    input: &mut R,
+    buf: &mut [u8],
+    w: Window,
+    need: usize,
+) -> io::Result<Window>
     requires { Inside w buf.old × (need ≤ length buf.old) }
-    ensures { Holds need w buf.old result buf.new }
+    ensures holds { IfOk result (λ r. Holds need w buf.old r buf.new) }
+    ensures err { OnErr result (take (w.end - w.at) buf.new ≡ view w buf.old) }
 {
     if (need <= w.end - w.at) | !w.more {
-        return w;
+        return Ok(w);
     }
-    let end = refill(buf, w);
-    Window {
+    let end = refill(input, buf, w)?;
+    Ok(Window {
         at: 0,
         end,
         more: end == buf.len(),
-    }
+    })
 }
