@@ -57,12 +57,7 @@ fn refill<R: Read>(input: &mut R, buf: &mut [u8], w: Window) -> io::Result<usize
 
 // Reads more unless `need` bytes are before the program. A read that does not fill the buffer has met the input's end.
 // After an error what was before the program stands at the buffer's front, and what was read of the input is lost.
-pub fn hold<R: Read>(
-    input: &mut R,
-    buf: &mut [u8],
-    w: Window,
-    need: usize,
-) -> io::Result<Window>
+pub fn hold<R: Read>(input: &mut R, buf: &mut [u8], w: Window, need: usize) -> io::Result<Window>
     requires { Inside w buf.old × (need ≤ length buf.old) }
     ensures holds { IfOk result (λ r. Holds need w buf.old r buf.new) }
     ensures err { OnErr result (take (w.end - w.at) buf.new ≡ view w buf.old) }
