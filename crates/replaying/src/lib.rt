@@ -4,9 +4,10 @@
 // Functions here may have a `requires`.
 #![tactic(auto)]
 
-ghost use Rattle.std.specs.Prelude.{◌≡◌, cond, ◌+◌, ◌*◌, ◌<◌, ◌≤◌, min, eqb, length, IfOk, OnErr};
+ghost use Rattle.std.specs.Prelude.{◌≡◌, cond, ◌+◌, ◌*◌, ◌<◌, ◌≤◌, min, eqb, length, drop, ◌++◌, codes, decimal, IfOk, OnOk, OnErr};
 ghost use Rattle.std.specs.Float.{binary32};
 ghost use Rattle.std.specs.Float.Ieee.{eq, to_bits};
+ghost use Rattle.std.specs.Io.KnownBytes.{Appends};
 
 use std::io;
 use std::io::{Read, Write};
@@ -56,8 +57,10 @@ pub fn area(width: u8, height: u8) -> usize {
     (width as usize) * (height as usize)
 }
 
+// Reads as many bytes into the front. What stands behind them stays.
 pub fn read_front<R: Read>(input: &mut R, bytes: &mut [u8], count: usize) -> io::Result<()>
     requires { count ≤ length bytes.old }
+    ensures { drop count bytes.new ≡ drop count bytes.old }
 {
     input::read_full(input, &mut bytes[..count])?;
     Ok(())
@@ -132,12 +135,17 @@ pub fn written(number: u32, count: usize) -> usize
     if number == 0 { count } else { 0 }
 }
 
-pub fn print_number<W: Write>(out: &mut W, v: u64) -> io::Result<()> {
+pub fn print_number<W: Write>(out: &mut W, v: u64) -> io::Result<()>
+    ensures { OnOk result (Appends (W.contents out.old) (W.contents out.new) (codes " " ++ decimal v)) }
+{
     write!(out, " {v}")
 }
 
 // A float, by its bits.
-pub fn print_float<W: Write>(out: &mut W, v: f32) -> io::Result<()> {
+pub fn print_float<W: Write>(out: &mut W, v: f32) -> io::Result<()>
+    ensures { OnOk result (Appends (W.contents out.old) (W.contents out.new)
+        (codes " " ++ decimal (cond (eq v v) (to_bits binary32 v) 4294967295))) }
+{
     print_number(out, bits_of(v) as u64)
 }
 
