@@ -1,3 +1,4 @@
+use mathlib.Core.Path.{◌∙◌}
 use mathlib.Core.Path.{◌≡◌, sym}
 use mathlib.Core.Bool.{true}
 use Prim.Native.Nat.{ℕ, ◌-◌, ◌<◌}
@@ -20,7 +21,7 @@ unfolding row_ok
 returns-then-not-number_ok c =
     let a = c.args in
     sym (all_below_not (number_ok a.used a.row.now) _ c.loop-s.s c.loop-s-test.true
-    (fails _ _ c.number_ok.ensures c.if-not-number_ok.true))
+    (sym c.number_ok.ensures ∙ c.if-not-number_ok.true))
 
 pub overflow_add-s : goal.overflow_add-s
 overflow_add-s c = omega arith
@@ -32,7 +33,7 @@ pub loop-s-preserved : goal.loop-s-preserved
 loop-s-preserved c =
     let a = c.args in
     below_more (λ i. number_ok a.used a.row.now i ≡ true) c.loop-s.s c.loop-s.invariant
-    (holds _ _ c.number_ok.ensures c.if-not-number_ok.false)
+    (sym c.number_ok.ensures ∙ c.if-not-number_ok.false)
 
 pub returns : goal.returns
 unfolding row_ok

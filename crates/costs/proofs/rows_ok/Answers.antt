@@ -53,7 +53,7 @@ unfolding rows_ok
 returns-then-not-row_ok c =
     let l = c.loop-r in
     sym (all_below_not (table_row_ok _) 41 l.r c.loop-r-test.true
-    (fails _ _ (row_by _ l.r _ _ c.row_at-row.ensures c.row_ok.ensures) c.if-not-row_ok.true))
+    (sym (row_by _ l.r _ _ c.row_at-row.ensures c.row_ok.ensures) ∙ c.if-not-row_ok.true))
 
 pub overflow_add-r : goal.overflow_add-r
 overflow_add-r c = omega arith
@@ -66,7 +66,7 @@ loop-r-preserved c =
     let l = c.loop-r in (
       omega arith,
       below_more (λ i. table_row_ok _ i ≡ true) l.r l.invariant.1
-          (holds _ _ (row_by _ l.r _ _ c.row_at-row.ensures c.row_ok.ensures) c.if-not-row_ok.false),
+          (sym (row_by _ l.r _ _ c.row_at-row.ensures c.row_ok.ensures) ∙ c.if-not-row_ok.false),
     )
 
 pub returns : goal.returns
