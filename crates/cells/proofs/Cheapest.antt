@@ -42,7 +42,7 @@ module _ {A : Type 0} (P : A → Type 0) (total : A → Float) where
   pub cheapest_holds : (a : A) (xs : List A) → P a → All P xs → P (cheapest total a xs)
   unfolding cheapest
   cheapest_holds a [] p q = p
-  cheapest_holds a (x ∷ xs) p q = cheapest_holds _ xs (either_way P (lt (total x) (total a)) x a q.0 p) q.1
+  cheapest_holds a (x ∷ xs) p q = cheapest_holds (cond (lt (total x) (total a)) x a) xs (either_way P (lt (total x) (total a)) x a q.0 p) q.1
 
   pub first_cheapest_holds : (given : A) (xs : List A) → P given → All P xs → P (first_cheapest total given xs)
   unfolding first_cheapest

@@ -1,6 +1,5 @@
 use mathlib.Core.Path.{refl}
 use Rattle.lists.specs.Counted.{all_below}
-use borrow.Author.Rules.{rules}
 use Rattle.cells.proofs.alone.Goals as goal
 
 pub returns : goal.returns

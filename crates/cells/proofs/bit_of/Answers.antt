@@ -2,7 +2,6 @@ use mathlib.Core.Bool.{Bool, true, false}
 use Prim.Native.Nat.{◌≤◌}
 use native.Mathlib.Omega.{arith}
 use mir.Val.{bool_byte}
-use borrow.Author.Rules.{rules}
 use Rattle.cells.proofs.bit_of.Goals as goal
 
 byte_few : (b : Bool) → bool_byte b ≤ 1

@@ -5,7 +5,6 @@ use lib.ListN.{get_or}
 use Rattle.rows.specs.Rows.{around_row, order_row}
 use Rattle.rows.proofs.Laws.{row_ok_holds, eight_fits}
 use Rattle.context.proofs.Order.{order_below}
-use borrow.Author.Rules.{rules}
 use Rattle.cells.proofs.candidate.Goals as goal
 
 -- in row 0 too, so that an edit to that row is refused at the answer

@@ -1,7 +1,6 @@
 use mathlib.Core.Path.{◌≡◌, refl, sym, ◌∙◌}
 use mathlib.Core.Logic.{inl, inr}
 use lib.Ieee.{nan, binary32, of_bits, div}
-use borrow.Author.Rules.{rules}
 use Rattle.cells.proofs.cap_of.Goals as goal
 
 no_number : div binary32 (of_bits binary32 0) (of_bits binary32 0) ≡ nan

@@ -5,7 +5,6 @@ use Rattle.rows.specs.Rows.{around_row, row_order}
 use Rattle.rows.proofs.Laws.{row_ok_holds}
 use Rattle.cells.proofs.Order.{order_under, order_few}
 use Rattle.cells.proofs.Ranked.{chosen_in}
-use borrow.Author.Rules.{rules}
 use Rattle.cells.proofs.choose_cell.Goals as goal
 
 inside : (c : goal.After-pick_by-p) → (c.pick_by-p.result.index < c.args.n) × (c.pick_by-p.result.rank < 8)

@@ -1,4 +1,4 @@
-use Prim.Native.Nat.{ℕ, ◌+◌, ◌-◌, ◌≤◌, ◌<◌}
+use Prim.Native.Nat.{ℕ, ◌+◌, ◌≤◌}
 use mathlib.Core.Bool.{true}
 use mathlib.Core.Path.{◌≡◌, sym}
 use mathlib.Core.Logic.{⊎_elim}
@@ -7,7 +7,6 @@ use native.Mathlib.Omega.{arith}
 use lib.ListN.{get_or}
 use lib.Ieee.{nan, le}
 use Rattle.lists.proofs.Counted.{all_below_of, all_below_not}
-use borrow.Author.Rules.{rules}
 use Rattle.cells.proofs.none_above.Goals as goal
 
 pub loop-k-init : goal.loop-k-init

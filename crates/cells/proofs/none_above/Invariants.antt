@@ -1,13 +1,8 @@
 use Prim.Native.Nat.{ℕ, ◌+◌, ◌-◌, ◌≤◌, ◌<◌}
 use mathlib.Core.Bool.{true}
-use mathlib.Core.Path.{◌≡◌, sym}
-use mathlib.Core.Logic.{⊎_elim}
-use native.Mathlib.Nat.{eq-or-lt_of_le}
-use native.Mathlib.Omega.{arith}
+use mathlib.Core.Path.{◌≡◌}
 use lib.ListN.{get_or}
 use lib.Ieee.{nan, le}
-use Rattle.lists.proofs.Counted.{all_below_of, all_below_not}
-use borrow.Author.Rules.{rules}
 use Rattle.cells.proofs.none_above.Given as goal
 
 abbrev pub invariant-loop-k : goal.invariant-loop-k

@@ -1,11 +1,10 @@
-use Prim.Native.Nat.{◌-◌, ◌≤◌, ◌<◌}
+use Prim.Native.Nat.{◌<◌}
 use mathlib.Core.Path.{◌≡◌, refl, sym, ◌∙◌}
 use native.Mathlib.Omega.{arith}
-use lib.ListN.{get_or, drop}
+use lib.ListN.{get_or}
 use Rattle.rows.specs.Rows.{row_order}
 use Rattle.rows.proofs.Laws.{row_length, order_row_is}
-use Rattle.cells.specs.declared.Pick.{Pick}
-use Rattle.cells.specs.Cell.{cheapest, ranked, chosen, pick_at}
+use Rattle.cells.specs.Cell.{pick_at}
 use Rattle.cells.proofs.Ranked.{picked_first, picked_next, picked_last}
 use Rattle.cells.proofs.pick_by.Goals as goal
 

@@ -1,12 +1,9 @@
-use Prim.Native.Nat.{◌-◌, ◌≤◌, ◌<◌}
-use mathlib.Core.Path.{◌≡◌, refl, sym, ◌∙◌}
-use native.Mathlib.Omega.{arith}
-use lib.ListN.{get_or, drop}
+use Prim.Native.Nat.{◌-◌, ◌≤◌}
+use mathlib.Core.Path.{◌≡◌}
+use lib.ListN.{drop}
 use Rattle.rows.specs.Rows.{row_order}
-use Rattle.rows.proofs.Laws.{row_length, order_row_is}
 use Rattle.cells.specs.declared.Pick.{Pick}
-use Rattle.cells.specs.Cell.{cheapest, ranked, chosen, pick_at}
-use Rattle.cells.proofs.Ranked.{picked_first, picked_next, picked_last}
+use Rattle.cells.specs.Cell.{cheapest, ranked, chosen}
 use Rattle.cells.proofs.pick_by.Given as goal
 
 abbrev pub invariant-loop-q : goal.invariant-loop-q

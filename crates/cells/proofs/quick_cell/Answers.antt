@@ -1,7 +1,6 @@
 use native.Mathlib.Omega.{arith}
 use mathlib.Core.Path.{refl, sym, ◌∙◌}
 use Rattle.cells.proofs.Quick.{sole_cell}
-use borrow.Author.Rules.{rules}
 use Rattle.cells.proofs.quick_cell.Goals as goal
 
 pub overflow_mul-b : goal.overflow_mul-b

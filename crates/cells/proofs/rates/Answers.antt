@@ -1,5 +1,4 @@
 use Rattle.cells.specs.Cell.{rates_of}
-use borrow.Author.Rules.{rules}
 use Rattle.cells.proofs.rates.Goals as goal
 
 pub returns-then-first : goal.returns-then-first

@@ -1,17 +1,13 @@
-use Prim.Native.Nat.{ℕ, ◌-◌, ◌/◌, ◌%◌, ◌≤◌, ◌<◌}
-use mathlib.Core.Bool.{Bool, false, ◌||◌}
+use Prim.Native.Nat.{ℕ, ◌≤◌}
+use mathlib.Core.Bool.{false}
 use mathlib.Core.Path.{◌≡◌, refl, ◌∙◌}
 use mathlib.Core.Logic.{⊎_elim}
 use native.Mathlib.Nat.{eq-or-lt_of_le}
 use native.Mathlib.Omega.{arith}
-use lib.Dec.{eqb, leb}
-use lib.ListN.{length, get_or, set, length-set}
+use lib.ListN.{get_or, set, length-set}
 use lib.Seq.{get_or-set_same, get_or-set_other}
+use Rattle.cells.proofs.skips_of.Invariants.{due}
 use Rattle.cells.proofs.skips_of.Goals as goal
-
--- place j
-abbrev due : ℕ → ℕ → Bool
-due n j = leb n (j % 8) || eqb (j % 8) (j / 8)
 
 pub loop-j-init : goal.loop-j-init
 loop-j-init c = (λ k h. absurd (omega arith), refl, omega arith)

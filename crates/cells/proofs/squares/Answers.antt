@@ -1,6 +1,5 @@
 use mathlib.Core.Path.{refl}
 use Rattle.cells.specs.Cell.{squares_of}
-use borrow.Author.Rules.{rules}
 use Rattle.cells.proofs.squares.Goals as goal
 
 pub returns : goal.returns

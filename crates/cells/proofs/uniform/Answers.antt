@@ -1,7 +1,6 @@
 use native.Mathlib.Omega.{arith}
 use mathlib.Core.Path.{refl}
 use Rattle.counts.proofs.Uniform.{uniform_any}
-use borrow.Author.Rules.{rules}
 use Rattle.cells.proofs.uniform.Goals as goal
 
 pub overflow_cast-result : goal.overflow_cast-result

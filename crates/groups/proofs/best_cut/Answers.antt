@@ -1,12 +1,11 @@
 use mathlib.Core.Bool.{true, false}
 use mathlib.Core.Path.{◌≡◌, refl}
-use mathlib.Core.Logic.{⊎_elim}
-use Prim.Native.Nat.{ℕ, suc, ◌+◌, ◌-◌, ◌*◌, ◌≤◌}
+use Prim.Native.Nat.{suc, ◌-◌}
 use native.Mathlib.Omega.{arith}
 use lib.Ieee.{of_bits, div, lt}
-use Rattle.groups.specs.Tables.{row_at}
 use Rattle.groups.specs.Groups.{first_of}
 use Rattle.groups.proofs.best_cut.Goals as goal
+use Rattle.groups.proofs.best_cut.Goals.{then-c-b, else-c-b}
 
 pub overflow_mul-base : goal.overflow_mul-base
 overflow_mul-base c = omega arith
@@ -40,12 +39,12 @@ loop-i-preserved c =
       suc l.invariant.0,
       omega arith,
       omega arith,
-      ⊎_elim
-          (λ w. let less : lt _ l.b.cost ≡ true = w.0.taken in
-          rw (w.1, ← l.invariant.3, ← l.invariant.1, ← c.cost.ensures, less) refl)
-          (λ w. let not-less : lt _ l.b.cost ≡ false = w.0.left in
-          rw (w.1, ← l.invariant.3, ← l.invariant.1, ← c.cost.ensures, not-less) refl)
-          c.if-c-b.branch,
+      elim c.if-c-b.branch [
+        | then-c-b w ↦ let less : lt _ l.b.cost ≡ true = w.if-c-b.true in
+            rw (w.b-is, ← l.invariant.3, ← l.invariant.1, ← c.cost.ensures, less) refl
+        | else-c-b w ↦ let not-less : lt _ l.b.cost ≡ false = w.if-c-b.false in
+            rw (w.b-is, ← l.invariant.3, ← l.invariant.1, ← c.cost.ensures, not-less) refl
+      ],
     )
 
 pub returns : goal.returns

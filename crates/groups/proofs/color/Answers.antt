@@ -1,6 +1,6 @@
 use mathlib.Core.Path.{◌≡◌, refl}
 use mathlib.Core.List.{List}
-use Prim.Native.Nat.{ℕ, ◌+◌, ◌-◌, ◌*◌, ◌≤◌, ◌<◌}
+use Prim.Native.Nat.{ℕ, ◌+◌, ◌*◌, ◌≤◌, ◌<◌}
 use native.Mathlib.Nat.{mul-pos, zero-lt-suc, div-lt_iff_lt-mul}
 use native.Mathlib.Omega.{arith}
 use lib.ListN.{get_or}
@@ -14,17 +14,8 @@ record More (xs : List ℕ) (t j : ℕ) : Type 0 where
   next : sum_to xs (t + 1) ≡ sum_to xs t + get_or xs t 0
   last : sum_to xs (t + 1) ≤ sum_to xs j
 
-more : (c : goal.In-loop-t)
-    → let a = c.args in
-    let t = c.loop-t.t in
-    More a.w.now t a.j × More a.s.now t a.j
-more c =
-    let a = c.args in
-    let t = c.loop-t.t in
-    let l : t + 1 ≤ a.j = omega arith in
-    let one : (xs : List ℕ) → More xs t a.j =
-    λ xs. record { next = sum_next xs t; last = sum_mono xs (t + 1) a.j l } in
-    (one a.w.now, one a.s.now)
+more : (xs : List ℕ) (t j : ℕ) → t < j → More xs t j
+more xs t j h = record { next = sum_next xs t; last = sum_mono xs (t + 1) j (omega arith) }
 
 -- after the loop
 record Sums (w s : List ℕ) (i j dw ds : ℕ) : Type 0 where
@@ -57,7 +48,7 @@ pub bounds-w-t : goal.bounds-w-t
 bounds-w-t c = omega arith
 
 pub overflow_add-dw : goal.overflow_add-dw
-overflow_add-dw c = omega (arith, more c.before)
+overflow_add-dw c = omega (arith, more c.args.w.now c.loop-t.t c.args.j c.loop-t-test.true)
 
 pub offset_bounds-s-t : goal.offset_bounds-s-t
 offset_bounds-s-t c = omega arith
@@ -66,7 +57,7 @@ pub bounds-s-t : goal.bounds-s-t
 bounds-s-t c = omega arith
 
 pub overflow_add-ds : goal.overflow_add-ds
-overflow_add-ds c = omega (arith, more c.before.before)
+overflow_add-ds c = omega (arith, more c.args.s.now c.loop-t.t c.args.j c.loop-t-test.true)
 
 pub overflow_add-t : goal.overflow_add-t
 overflow_add-t c = omega arith
@@ -75,7 +66,9 @@ pub loop-t-smaller : goal.loop-t-smaller
 loop-t-smaller c = omega arith
 
 pub loop-t-preserved : goal.loop-t-preserved
-loop-t-preserved c = let m = more c.before.before in (omega arith, omega arith, omega (arith, m), omega (arith, m))
+loop-t-preserved c =
+    let m = λ (xs : List ℕ). more xs c.loop-t.t c.args.j c.loop-t-test.true in
+    (omega arith, omega arith, omega (arith, m c.args.w.now), omega (arith, m c.args.s.now))
 
 pub overflow_mul-result : goal.overflow_mul-result
 overflow_mul-result c = omega (arith, sums c)

@@ -1,12 +1,6 @@
-use mathlib.Core.Path.{◌≡◌, refl}
-use mathlib.Core.List.{List}
-use Prim.Native.Nat.{ℕ, ◌+◌, ◌-◌, ◌*◌, ◌≤◌, ◌<◌}
-use native.Mathlib.Nat.{mul-pos, zero-lt-suc, div-lt_iff_lt-mul}
-use native.Mathlib.Omega.{arith}
-use lib.ListN.{get_or}
-use Rattle.groups.specs.Groups.{sum_in}
+use mathlib.Core.Path.{◌≡◌}
+use Prim.Native.Nat.{◌+◌, ◌-◌, ◌≤◌}
 use Rattle.groups.specs.Histogram.{sum_to}
-use Rattle.groups.proofs.Sums.{sum_next, sum_mono}
 use Rattle.groups.proofs.color.Given as goal
 
 -- The invariant: the sums of the numbers passed.

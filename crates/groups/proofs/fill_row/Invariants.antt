@@ -1,9 +1,5 @@
-use mathlib.Core.Path.{◌≡◌}
-use Prim.Native.Nat.{◌+◌, ◌-◌, ◌*◌, ◌≤◌, ◌<◌}
-use native.Mathlib.Omega.{arith}
-use lib.ListN.{length}
+use Prim.Native.Nat.{◌+◌, ◌-◌, ◌≤◌}
 use Rattle.groups.specs.Tables.{Filled}
-use Rattle.groups.proofs.Rows.{none, more}
 use Rattle.groups.proofs.fill_row.Given as goal
 
 -- The invariant: the row is filled up to column j.

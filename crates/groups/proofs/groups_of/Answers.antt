@@ -3,12 +3,12 @@ use Prim.Native.Nat.{◌+◌, ◌*◌}
 use native.Mathlib.Omega.{arith}
 use lib.ListN.{get_or}
 use lib.Ieee.{nan, binary64, of_bits}
-use borrow.Author.Rules.{rules}
 use Rattle.groups.specs.Groups.{cost_to, floored}
 use Rattle.groups.proofs.groups_of.Goals as goal
+use Rattle.groups.proofs.groups_of.Goals.{Start}
 
 -- the cost in the table
-cost_is : (c : goal.Start)
+cost_is : (c : Start)
     → get_or c.args.costs.now (c.args.k * 33 + c.args.h.n) nan ≡ cost_to c.args.h c.args.k c.args.h.n
 cost_is c = c.requires.3.costs c.args.k c.args.h.n (omega arith) (omega arith)
 

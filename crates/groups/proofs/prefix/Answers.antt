@@ -1,5 +1,5 @@
 use mathlib.Core.Path.{◌≡◌, refl, sym, ap, ◌∙◌}
-use Prim.Native.Nat.{ℕ, suc, ◌+◌, ◌-◌, ◌^◌, ◌≤◌, ◌<◌}
+use Prim.Native.Nat.{suc, ◌+◌, ◌^◌}
 use native.Mathlib.Omega.{arith}
 use native.Mathlib.Numerals.{add-one}
 use native.Mathlib.Nat.{ne_of_lt}
@@ -14,15 +14,16 @@ use Rattle.ieee.specs.Numbers.{nat}
 use Rattle.groups.specs.Groups.{prefix_of}
 use Rattle.groups.proofs.Sums.{sums_first, sums_length, sums_next}
 use Rattle.groups.proofs.prefix.Goals as goal
+use Rattle.groups.proofs.prefix.Goals.{Start}
 
-full : (c : goal.Start) → length c.args.t1 ≡ 32
-full c = good_length (e_int w64) 32 c.args.t1 _ c.well_formed.0
+full : (c : Start) → length c.args.xs ≡ 32
+full c = good_length (e_int w64) 32 c.args.xs _ c.well_formed.0
 
 pub loop-i-init : goal.loop-i-init
 loop-i-init c = (
   omega arith,
   refl,
-  λ k h. let e : k ≡ 0 = omega arith in rw e (sym (sums_first (of_bits binary64 0) c.args.t1)),
+  λ k h. let e : k ≡ 0 = omega arith in rw e (sym (sums_first (of_bits binary64 0) c.args.xs)),
 )
 
 pub offset_bounds-out-i : goal.offset_bounds-out-i
@@ -41,7 +42,7 @@ pub int_to_float-out : goal.int_to_float-out
 unfolding in_float
 int_to_float-out c =
     let i = c.loop-i.i in
-    le→leb (get_or c.args.t1 i 0) (2 ^ 53) (c.requires i c.loop-i-test.true)
+    le→leb (get_or c.args.xs i 0) (2 ^ 53) (c.requires i c.loop-i-test.true)
 
 pub overflow_add-out : goal.overflow_add-out
 overflow_add-out c = omega arith
@@ -61,7 +62,7 @@ loop-i-smaller c = omega arith
 pub loop-i-preserved : goal.loop-i-preserved
 loop-i-preserved c =
     let l = c.loop-i in
-    let xs = c.args.t1 in
+    let xs = c.args.xs in
     let i = l.i in
     let v : Float = add binary64 (get_or l.out i nan) (nat binary64 (get_or xs i 0)) in
     let e : v ≡ get_or (prefix_of xs) (i + 1) nan =
@@ -77,7 +78,7 @@ loop-i-preserved c =
 pub returns : goal.returns
 returns c =
     let l = c.loop-i in
-    let xs = c.args.t1 in
+    let xs = c.args.xs in
     ext_get_or nan l.out (prefix_of xs)
     (l.invariant.1 ∙ sym (sums_length (of_bits binary64 0) xs ∙ ap suc (full c.before.before)))
     (λ i h. l.invariant.2 i (omega arith))
