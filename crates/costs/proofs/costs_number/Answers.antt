@@ -1,8 +1,6 @@
 use mathlib.Core.Path.{sym, ◌∙◌}
 use borrow.Author.Tests.{eq-eqb, ne_eqb}
-use Rattle.lists.proofs.Choice.{fails, holds}
 use Rattle.costs.specs.Costs.{costs_number}
-use borrow.Author.Rules.{rules}
 use Rattle.costs.proofs.costs_number.Goals as goal
 
 pub returns-then-adapted-eq0 : goal.returns-then-adapted-eq0
