@@ -28,6 +28,8 @@ use map_search::MapResult;
 use replaying::{BlockHead, bits_of, print_number};
 use scan::Scan;
 use sizes::{Block, Size};
+use std::io;
+use std::io::{Read, Write};
 
 // How often the context was asked for constant lines.
 #[derive(Drop)]
@@ -180,14 +182,14 @@ fn walk_in(
 }
 
 // What a map search found, by its bits.
-fn figures(found: MapResult) -> [u32; 3] {
+fn figures(found: &MapResult) -> [u32; 3] {
     match found {
         MapResult::Beaten => [0, 0, 0],
-        MapResult::Found(error, bits) => [1, bits_of(error), bits_of(bits)],
+        MapResult::Found(error, bits) => [1, bits_of(*error), bits_of(*bits)],
     }
 }
 
-fn same_found(one: MapResult, other: MapResult) -> bool {
+fn same_found(one: &MapResult, other: &MapResult) -> bool {
     let a = figures(one);
     let b = figures(other);
     (a[0] == b[0]) & (a[1] == b[1]) & (a[2] == b[2])
@@ -197,29 +199,34 @@ fn same_bytes(one: &[u8], other: &[u8]) -> bool {
     if one.len() != other.len() {
         return false;
     }
-    let mut i: usize = 0;
-    while i < one.len() {
+    for i in 0..one.len() {
         if one[i] != other[i] {
             return false;
         }
-        i += 1;
     }
     true
 }
 
-fn print_bool(v: bool) {
-    print_number(if v { 1 } else { 0 });
+fn print_bool<W: Write>(out: &mut W, v: bool) -> io::Result<()> {
+    print_number(out, if v { 1 } else { 0 })
 }
 
-fn print_search(place: u64, n: usize, transposed: bool, w: Walked, same: bool) {
-    io::print_decimal(1, place);
-    print_number(n as u64);
-    print_bool(transposed);
-    print_number(w.lines as u64);
-    print_number(w.askings.first as u64);
-    print_number(w.askings.later as u64);
-    print_bool(same);
-    io::write_all(1, b"\n");
+fn print_search<W: Write>(
+    out: &mut W,
+    place: u64,
+    n: usize,
+    transposed: bool,
+    w: Walked,
+    same: bool,
+) -> io::Result<()> {
+    write!(out, "{place}")?;
+    print_number(out, n as u64)?;
+    print_bool(out, transposed)?;
+    print_number(out, w.lines as u64)?;
+    print_number(out, w.askings.first as u64)?;
+    print_number(out, w.askings.later as u64)?;
+    print_bool(out, same)?;
+    out.write_all(b"\n")
 }
 
 // The bound after a map search, a copy of what `search::judge` keeps.
@@ -234,7 +241,8 @@ fn bound_after(bound: f32, b: Block, z: Size, found: MapResult) -> f32 {
 }
 
 // As `count_scan`, with the copy's map in cells and lines and the real one beside it.
-fn count_in(
+fn count_in<W: Write>(
+    out: &mut W,
     place: u64,
     samples: &[f32],
     costs: &[f32],
@@ -252,7 +260,7 @@ fn count_in(
     marks: &[f32; 8],
     cap: f32,
     skips: &[bool; 64],
-) -> f32
+) -> io::Result<f32>
     requires passed { Passed samples.now costs.now b (b.width * b.height) 64 × (2 ≤ z.n) × (z.n ≤ 8) }
     requires cells_value { (cells.old ≡ replicate (b.width * b.height) 0)
         × (lines.old ≡ replicate (lines_of transposed b.width b.height) 0) }
@@ -268,16 +276,16 @@ fn count_in(
         samples, costs, b, z, transposed, bound, real_cells, real_lines, orders, codes, colours,
         marks, cap, skips,
     );
-    let walked = w.found;
-    let same = same_found(walked, found)
+    let same = same_found(&w.found, &found)
         & same_bytes(cells, real_cells)
         & same_bytes(lines, real_lines);
-    print_search(place, z.n, transposed, w, same);
-    bound_after(bound, b, z, found)
+    print_search(out, place, z.n, transposed, w, same)?;
+    Ok(bound_after(bound, b, z, found))
 }
 
 // One orientation of a size: prints its line, and gives the bound for the next one.
-fn count_scan(
+fn count_scan<W: Write>(
+    out: &mut W,
     place: u64,
     samples: &[f32],
     costs: &[f32],
@@ -291,7 +299,7 @@ fn count_scan(
     marks: &[f32; 8],
     cap: f32,
     skips: &[bool; 64],
-) -> f32
+) -> io::Result<f32>
     requires { Passed samples.now costs.now b (b.width * b.height) 64 × (2 ≤ z.n) × (z.n ≤ 8)
         × Tables orders.now codes.now × Sized costs.now z colours.now cap skips.now }
 {
@@ -302,6 +310,7 @@ fn count_scan(
     let area = b.width * b.height;
     let count = context::lines_of(transposed, b.width, b.height);
     count_in(
+        out,
         place,
         samples,
         costs,
@@ -323,7 +332,15 @@ fn count_scan(
 }
 
 // A copy of `search::try_size`, with `try_both` opened.
-fn count_size(place: u64, samples: &[f32], costs: &[f32], b: Block, z: Size, bound: f32) -> f32
+fn count_size<W: Write>(
+    out: &mut W,
+    place: u64,
+    samples: &[f32],
+    costs: &[f32],
+    b: Block,
+    z: Size,
+    bound: f32,
+) -> io::Result<f32>
     requires { Passed samples.now costs.now b (b.width * b.height) 64 × (2 ≤ z.n) × (z.n ≤ 8) }
 {
     let orders = rows::orders();
@@ -334,18 +351,21 @@ fn count_size(place: u64, samples: &[f32], costs: &[f32], b: Block, z: Size, bou
     let cap = cells::cap_of(costs, z.n);
     let skips = cells::skips_of(z.n);
     let plain = count_scan(
-        place, samples, costs, b, z, false, bound, &orders, &codes, &colours, &marks, cap, &skips,
-    );
+        out, place, samples, costs, b, z, false, bound, &orders, &codes, &colours, &marks, cap,
+        &skips,
+    )?;
     if !counts::orient_sent(b.width, b.height) {
-        return plain;
+        return Ok(plain);
     }
     count_scan(
-        place, samples, costs, b, z, true, plain, &orders, &codes, &colours, &marks, cap, &skips,
+        out, place, samples, costs, b, z, true, plain, &orders, &codes, &colours, &marks, cap,
+        &skips,
     )
 }
 
 // A copy of `search::best_of`. There are at most seven sizes, each of 2 to `last` colours: these tests serve the proof.
-fn count_sizes(
+fn count_sizes<W: Write>(
+    out: &mut W,
     place: u64,
     samples: &[f32],
     costs: &[f32],
@@ -353,58 +373,76 @@ fn count_sizes(
     h: groups::Histogram,
     table: &[f64; 297],
     cuts: &[usize; 297],
-)
+) -> io::Result<()>
     requires { Known costs.now b h table.now cuts.now × Passed samples.now costs.now b (b.width * b.height) 64 }
 {
     let lbs = sizes::lbs_of(costs, b, h, table, cuts);
     let last = sizes::last_size(h.n);
     let mut left = sizes::open_sizes(h.n);
     let mut bound: f32 = 1.0 / 0.0;
-    let mut tried: usize = 0;
-    while tried < 7 {
+    for _ in 0..7 {
         let k = sizes::next_size(&lbs, &left);
         if k < 2 {
-            return;
+            break;
         }
         if last < k {
-            return;
+            break;
         }
         if lbs[k] >= bound {
-            return;
+            break;
         }
         let z = sizes::size_of(costs, b, h, table, cuts, k);
-        bound = count_size(place, samples, costs, b, z, bound);
+        bound = count_size(out, place, samples, costs, b, z, bound)?;
         left[k] = false;
-        tried += 1;
     }
+    Ok(())
 }
 
 // A copy of `search::search_in`: a block of 2 to 32 levels that has passed the tests.
-fn count_levels(place: u64, samples: &[f32], costs: &[f32], b: Block, h: groups::Histogram)
+fn count_levels<W: Write>(
+    out: &mut W,
+    place: u64,
+    samples: &[f32],
+    costs: &[f32],
+    b: Block,
+    h: groups::Histogram,
+) -> io::Result<()>
     requires passed { Passed samples.now costs.now b (b.width * b.height) 64 }
     requires h_value { (h ≡ histogram_in samples.now) × (2 ≤ h.n) × (h.n ≤ 32) }
 {
     let t = groups::tables_of(h, sizes::last_size(h.n));
     let table = t.costs;
     let cuts = t.cuts;
-    count_sizes(place, samples, costs, b, h, &table, &cuts);
+    count_sizes(out, place, samples, costs, b, h, &table, &cuts)
 }
 
 // The map searches of a block; none where the search, with room for every map, refuses it.
-fn count_block(place: u64, samples: &[f32], costs: &[f32], b: Block) {
+fn count_block<W: Write>(
+    out: &mut W,
+    place: u64,
+    samples: &[f32],
+    costs: &[f32],
+    b: Block,
+) -> io::Result<()> {
     let price = search::price_fault(b.lambda, costs);
     if search::fault(samples, b, price, 4096, 64) != 0 {
-        return;
+        return Ok(());
     }
     let h = groups::histogram_of(samples, b.bd);
     if search::levels_fault(h.n) != 0 {
-        return;
+        return Ok(());
     }
-    count_levels(place, samples, costs, b, h);
+    count_levels(out, place, samples, costs, b, h)
 }
 
 // Lends the samples and costs that were read.
-fn count_read(place: u64, a: BlockHead, samples: &[f32], costs: &[f32])
+fn count_read<W: Write>(
+    out: &mut W,
+    place: u64,
+    a: BlockHead,
+    samples: &[f32],
+    costs: &[f32],
+) -> io::Result<()>
     requires { (a.samples ≤ length samples.now) × (a.costs ≤ length costs.now) }
 {
     let b = Block {
@@ -415,26 +453,31 @@ fn count_read(place: u64, a: BlockHead, samples: &[f32], costs: &[f32])
     };
     let sampled = a.samples;
     let costed = a.costs;
-    count_block(place, &samples[..sampled], &costs[..costed], b);
+    count_block(out, place, &samples[..sampled], &costs[..costed], b)
 }
 
-fn count_all(samples: &mut [f32], costs: &mut [f32])
+fn count_all<R: Read, W: Write>(
+    input: &mut R,
+    out: &mut W,
+    samples: &mut [f32],
+    costs: &mut [f32],
+) -> io::Result<()>
     requires { (length samples.old ≡ 4200) × (length costs.old ≡ 560) }
 {
-    let mut place: u64 = 1;
-    while place < 10000 {
-        let a = replaying::next_block(samples, costs);
+    for place in 1..10000 {
+        let a = replaying::next_block(input, samples, costs)?;
         if !a.there {
-            return;
+            break;
         }
-        count_read(place, a, samples, costs);
-        place += 1;
+        count_read(out, place, a, samples, costs)?;
     }
+    Ok(())
 }
 
-fn main() {
+fn main(rt: HostRuntime) -> io::Result<()> {
     let mut samples = [0.0; 4200];
     let mut costs = [0.0; 560];
-    io::write_all(1, b"block colours orientation lines first later same\n");
-    count_all(&mut samples, &mut costs);
+    let mut out = rt.stdout();
+    out.write_all(b"block colours orientation lines first later same\n")?;
+    count_all(&mut rt.stdin(), &mut out, &mut samples, &mut costs)
 }

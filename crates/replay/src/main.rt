@@ -10,8 +10,10 @@
 ghost use Rattle.std.specs.Prelude.{◌≡◌, ◌<◌, ◌≤◌, length};
 
 use replaying::{bits_of, pair, print_buffer, print_number, read_front, read_pairs, size, wide};
+use std::io;
+use std::io::{Read, Write};
 
-#[derive(Drop)]
+#[derive(Clone, Copy)]
 struct Asked {
     width: usize,
     height: usize,
@@ -60,10 +62,8 @@ fn asked_by(head: &[u8; 29]) -> Asked
 
 fn all_bits(values: &[f32; 4240]) -> [u32; 4240] {
     let mut bits = [0u32; 4240];
-    let mut i: usize = 0;
-    while i < 4240 {
+    for i in 0..4240 {
         bits[i] = bits_of(values[i]);
-        i += 1;
     }
     bits
 }
@@ -81,7 +81,13 @@ fn blank_values() -> [f32; 4240]
     [0.5; 4240]
 }
 
-fn replay_list(a: Asked, cache: &[u16], flags: &[u8], map: &[u8])
+fn replay_list<W: Write>(
+    out: &mut W,
+    a: Asked,
+    cache: &[u16],
+    flags: &[u8],
+    map: &[u8],
+) -> io::Result<()>
     requires { a.word_room ≤ 4240 }
 {
     let mut words = blank_words();
@@ -99,13 +105,13 @@ fn replay_list(a: Asked, cache: &[u16], flags: &[u8], map: &[u8])
         cache,
         &mut words[..room],
     );
-    print_number(listed.number as u64);
-    print_number(listed.count as u64);
-    print_number(listed.raw_width as u64);
-    print_buffer(&words, listed.count, 4000000000);
+    print_number(out, listed.number as u64)?;
+    print_number(out, listed.count as u64)?;
+    print_number(out, listed.raw_width as u64)?;
+    print_buffer(out, &words, listed.count, 4000000000)
 }
 
-fn replay_pred(a: Asked, flags: &[u8], map: &[u8])
+fn replay_pred<W: Write>(out: &mut W, a: Asked, flags: &[u8], map: &[u8]) -> io::Result<()>
     requires { a.value_room ≤ 4240 }
 {
     let mut values = blank_values();
@@ -123,22 +129,34 @@ fn replay_pred(a: Asked, flags: &[u8], map: &[u8])
         &mut values[..room],
     );
     let bits = all_bits(&values);
-    print_number(number as u64);
+    print_number(out, number as u64)?;
     // `pred` accepts only a map of as many cells as there are values.
-    print_buffer(&bits, replaying::written(number, a.cells), bits_of(0.5));
+    print_buffer(
+        out,
+        &bits,
+        replaying::written(number, a.cells),
+        bits_of(0.5),
+    )
 }
 
-fn print_line(place: u64, a: Asked, cache: &[u16], flags: &[u8], map: &[u8])
+fn print_line<W: Write>(
+    out: &mut W,
+    place: u64,
+    a: Asked,
+    cache: &[u16],
+    flags: &[u8],
+    map: &[u8],
+) -> io::Result<()>
     requires { (a.word_room ≤ 4240) × (a.value_room ≤ 4240) }
 {
-    io::print_decimal(1, place);
-    replay_list(a, cache, flags, map);
-    replay_pred(a, flags, map);
-    io::write_all(1, b"\n");
+    write!(out, "{place}")?;
+    replay_list(out, a, cache, flags, map)?;
+    replay_pred(out, a, flags, map)?;
+    out.write_all(b"\n")
 }
 
 // Reads what stands behind the 29 bytes, and prints the palette's line.
-fn replay(place: u64, a: Asked)
+fn replay<R: Read, W: Write>(input: &mut R, out: &mut W, place: u64, a: Asked) -> io::Result<()>
     requires { (a.cached < 256) × (a.lines < 256) × (a.cells ≤ 4240) × (a.word_room ≤ 4240) × (a.value_room ≤ 4240) }
 {
     let mut cache = [0u16; 256];
@@ -147,26 +165,37 @@ fn replay(place: u64, a: Asked)
     let cached = a.cached;
     let lines = a.lines;
     let cells = a.cells;
-    read_pairs(&mut cache, cached);
-    read_front(&mut flags, lines);
-    read_front(&mut map, cells);
-    print_line(place, a, &cache[..cached], &flags[..lines], &map[..cells]);
+    read_pairs(input, &mut cache, cached)?;
+    read_front(input, &mut flags, lines)?;
+    read_front(input, &mut map, cells)?;
+    print_line(
+        out,
+        place,
+        a,
+        &cache[..cached],
+        &flags[..lines],
+        &map[..cells],
+    )
 }
 
 // False once the input has no further palette.
-fn replay_next(place: u64) -> bool {
+fn replay_next<R: Read, W: Write>(input: &mut R, out: &mut W, place: u64) -> io::Result<bool> {
     let mut head = [0u8; 29];
-    let got = io::read_full(0, &mut head);
+    let got = input::read_full(input, &mut head)?;
     if got < 29 {
-        return false;
+        return Ok(false);
     }
-    replay(place, asked_by(&head));
-    true
+    replay(input, out, place, asked_by(&head))?;
+    Ok(true)
 }
 
-fn main() {
-    let mut place: u64 = 1;
-    while place < 10000 && replay_next(place) {
-        place += 1;
+fn main(rt: HostRuntime) -> io::Result<()> {
+    let mut input = rt.stdin();
+    let mut out = rt.stdout();
+    for place in 1..10000 {
+        if !replay_next(&mut input, &mut out, place)? {
+            break;
+        }
     }
+    Ok(())
 }

@@ -9,9 +9,18 @@
 ghost use Rattle.std.specs.Prelude.{◌≡◌, ◌≤◌, length};
 
 use replaying::{BlockHead, lines_of, print_answer, print_bytes, print_float, written};
+use std::io;
+use std::io::{Read, Write};
 
 // Lends the front of both buffers, and prints the answer and what the buffers then hold.
-fn replay_search(a: BlockHead, samples: &[f32], costs: &[f32], map: &mut [u8], flags: &mut [u8])
+fn replay_search<W: Write>(
+    out: &mut W,
+    a: BlockHead,
+    samples: &[f32],
+    costs: &[f32],
+    map: &mut [u8],
+    flags: &mut [u8],
+) -> io::Result<()>
     requires { (a.map_room ≤ length map.old) × (a.flag_room ≤ length flags.old) }
 {
     let map_room = a.map_room;
@@ -28,50 +37,66 @@ fn replay_search(a: BlockHead, samples: &[f32], costs: &[f32], map: &mut [u8], f
     );
     let colors = found.colors;
     let lines = lines_of(a.width, a.height, found.transposed);
-    print_answer(found.number, found.n, found.transposed, colors);
-    print_float(palette::estimate(found));
-    print_float(found.head);
-    print_float(found.map_bits);
-    print_bytes(map, written(found.number, a.cells));
-    print_bytes(flags, written(found.number, lines));
+    print_answer(out, found.number, found.n, found.transposed, colors)?;
+    print_float(out, palette::estimate(found))?;
+    print_float(out, found.head)?;
+    print_float(out, found.map_bits)?;
+    print_bytes(out, map, written(found.number, a.cells))?;
+    print_bytes(out, flags, written(found.number, lines))
 }
 
-fn print_line(place: u64, a: BlockHead, samples: &[f32], costs: &[f32])
+fn print_line<W: Write>(
+    out: &mut W,
+    place: u64,
+    a: BlockHead,
+    samples: &[f32],
+    costs: &[f32],
+) -> io::Result<()>
     requires { (a.map_room ≤ 4240) × (a.flag_room ≤ 80) }
 {
     let mut map = [238; 4240];
     let mut flags = [238; 80];
-    io::print_decimal(1, place);
-    replay_search(a, samples, costs, &mut map, &mut flags);
-    io::write_all(1, b"\n");
+    write!(out, "{place}")?;
+    replay_search(out, a, samples, costs, &mut map, &mut flags)?;
+    out.write_all(b"\n")
 }
 
 // Lends the samples and costs that were read.
-fn replay(place: u64, a: BlockHead, samples: &[f32], costs: &[f32])
+fn replay<W: Write>(
+    out: &mut W,
+    place: u64,
+    a: BlockHead,
+    samples: &[f32],
+    costs: &[f32],
+) -> io::Result<()>
     requires map_room_bound { (a.map_room ≤ 4240) × (a.flag_room ≤ 80) }
     requires samples_in_bounds { (a.samples ≤ length samples.now) × (a.costs ≤ length costs.now) }
 {
     let sampled = a.samples;
     let costed = a.costs;
-    print_line(place, a, &samples[..sampled], &costs[..costed]);
+    print_line(out, place, a, &samples[..sampled], &costs[..costed])
 }
 
-fn replay_all(samples: &mut [f32], costs: &mut [f32])
+fn replay_all<R: Read, W: Write>(
+    input: &mut R,
+    out: &mut W,
+    samples: &mut [f32],
+    costs: &mut [f32],
+) -> io::Result<()>
     requires { (length samples.old ≡ 4200) × (length costs.old ≡ 560) }
 {
-    let mut place: u64 = 1;
-    while place < 10000 {
-        let a = replaying::next_block(samples, costs);
+    for place in 1..10000 {
+        let a = replaying::next_block(input, samples, costs)?;
         if !a.there {
-            return;
+            break;
         }
-        replay(place, a, samples, costs);
-        place += 1;
+        replay(out, place, a, samples, costs)?;
     }
+    Ok(())
 }
 
-fn main() {
+fn main(rt: HostRuntime) -> io::Result<()> {
     let mut samples = [0.0; 4200];
     let mut costs = [0.0; 560];
-    replay_all(&mut samples, &mut costs);
+    replay_all(&mut rt.stdin(), &mut rt.stdout(), &mut samples, &mut costs)
 }

@@ -11,16 +11,16 @@
 ghost use Rattle.std.specs.Prelude.{◌<◌, ◌≤◌};
 
 use replaying::{hashed, pair, print_number, read_front, size, word};
+use std::io;
+use std::io::{Read, Write};
 
 fn hash_eight(h: u64, bytes: [u8; 8]) -> u64
     requires { h < 4294967291 }
     ensures { result < 4294967291 }
 {
     let mut after = h;
-    let mut i: usize = 0;
-    while i < 8 {
-        after = hashed(after, word(bytes[i]));
-        i += 1;
+    for byte in bytes {
+        after = hashed(after, word(byte));
     }
     after
 }
@@ -51,39 +51,35 @@ fn hash_inside(h: u64, left: u8, n: usize) -> u64
     ensures { result < 4294967291 }
 {
     let mut after = h;
-    let mut i: u8 = 0;
-    while i < 81 {
+    for i in 0..81u8 {
         let map = [i % 9, i / 9, left];
         after = hash_answer(after, &map, 2, 1, 1, n);
-        i += 1;
     }
     after
 }
 
-fn print_neighbour(n: usize, neighbour: u8) {
+fn print_neighbour<W: Write>(out: &mut W, n: usize, neighbour: u8) -> io::Result<()> {
     let one = [neighbour];
     let top_row = hash_answer(0, &one, 2, 0, 1, n);
     let edges = hash_answer(top_row, &one, 1, 1, 0, n);
-    io::print_decimal(1, n as u64);
-    print_number(neighbour as u64);
-    print_number(hash_inside(edges, neighbour, n));
-    io::write_all(1, b"\n");
+    write!(out, "{n}")?;
+    print_number(out, neighbour as u64)?;
+    print_number(out, hash_inside(edges, neighbour, n))?;
+    out.write_all(b"\n")
 }
 
-fn print_neighbours(n: usize) {
-    let mut neighbour: u8 = 0;
-    while neighbour < 9 {
-        print_neighbour(n, neighbour);
-        neighbour += 1;
+fn print_neighbours<W: Write>(out: &mut W, n: usize) -> io::Result<()> {
+    for neighbour in 0..9 {
+        print_neighbour(out, n, neighbour)?;
     }
+    Ok(())
 }
 
-fn print_all() {
-    let mut n: usize = 0;
-    while n < 11 {
-        print_neighbours(n);
-        n += 1;
+fn print_all<W: Write>(out: &mut W) -> io::Result<()> {
+    for n in 0..11 {
+        print_neighbours(out, n)?;
     }
+    Ok(())
 }
 
 // A number of two bytes, the low one first; the last 256 of them stand for the last of all numbers.
@@ -95,54 +91,63 @@ fn far(low: u8, high: u8) -> usize {
     18446744073709551615 - (65535 - v) as usize
 }
 
-fn print_eight(bytes: [u8; 8]) {
-    let mut i: usize = 0;
-    while i < 8 {
-        print_number(bytes[i] as u64);
-        i += 1;
+fn print_eight<W: Write>(out: &mut W, bytes: [u8; 8]) -> io::Result<()> {
+    for byte in bytes {
+        print_number(out, byte as u64)?;
     }
+    Ok(())
 }
 
-fn print_line(place: u64, map: &[u8], head: &[u8; 10]) {
+fn print_line<W: Write>(out: &mut W, place: u64, map: &[u8], head: &[u8; 10]) -> io::Result<()> {
     let stride = far(head[2], head[3]);
     let y = far(head[4], head[5]);
     let x = far(head[6], head[7]);
     let found = palette::color_ctx(map, stride, y, x, far(head[8], head[9]));
     let order = found.order;
     let ranks = found.ranks;
-    io::print_decimal(1, place);
-    print_number(found.number as u64);
-    print_number(found.ctx as u64);
-    print_eight(order);
-    print_eight(ranks);
-    io::write_all(1, b"\n");
+    write!(out, "{place}")?;
+    print_number(out, found.number as u64)?;
+    print_number(out, found.ctx as u64)?;
+    print_eight(out, order)?;
+    print_eight(out, ranks)?;
+    out.write_all(b"\n")
 }
 
 // Reads the map that stands behind the ten bytes, and prints the cell's line.
-fn replay(place: u64, head: &[u8; 10], count: usize)
+fn replay<R: Read, W: Write>(
+    input: &mut R,
+    out: &mut W,
+    place: u64,
+    head: &[u8; 10],
+    count: usize,
+) -> io::Result<()>
     requires { count ≤ 600 }
 {
     let mut cells = [0u8; 600];
-    read_front(&mut cells, count);
-    print_line(place, &cells[..count], head);
+    read_front(input, &mut cells, count)?;
+    print_line(out, place, &cells[..count], head)
 }
 
 // False once the input has no further cell.
-fn replay_next(place: u64) -> bool {
+fn replay_next<R: Read, W: Write>(input: &mut R, out: &mut W, place: u64) -> io::Result<bool> {
     let mut head = [0u8; 10];
-    let got = io::read_full(0, &mut head);
+    let got = input::read_full(input, &mut head)?;
     if got < 10 {
-        return false;
+        return Ok(false);
     }
     let count = size(head[0], head[1], 600);
-    replay(place, &head, count);
-    true
+    replay(input, out, place, &head, count)?;
+    Ok(true)
 }
 
-fn main() {
-    print_all();
-    let mut place: u64 = 1;
-    while place < 10000 && replay_next(place) {
-        place += 1;
+fn main(rt: HostRuntime) -> io::Result<()> {
+    let mut input = rt.stdin();
+    let mut out = rt.stdout();
+    print_all(&mut out)?;
+    for place in 1..10000 {
+        if !replay_next(&mut input, &mut out, place)? {
+            break;
+        }
     }
+    Ok(())
 }

@@ -9,73 +9,76 @@
 ghost use Rattle.std.specs.Prelude.{◌≤◌};
 
 use replaying::{bits_of, hash, print_number, read_pairs, size};
+use std::io;
+use std::io::{Read, Write};
 
 // Prints p and its cost unless the p before has the same.
-fn print_step(p: u16, before: u16) -> u16 {
+fn print_step<W: Write>(out: &mut W, p: u16, before: u16) -> io::Result<u16> {
     let cost = costs::cost_of(p);
     if cost != before {
-        io::print_decimal(1, p as u64);
-        print_number(cost as u64);
-        io::write_all(1, b"\n");
+        write!(out, "{p}")?;
+        print_number(out, cost as u64)?;
+        out.write_all(b"\n")?;
     }
-    cost
+    Ok(cost)
 }
 
 // There is no cost of 241, so the first p is printed.
-fn print_steps() {
+fn print_steps<W: Write>(out: &mut W) -> io::Result<()> {
     let mut before: u16 = 241;
-    let mut p: u16 = 1;
-    while p <= 32768 {
-        before = print_step(p, before);
-        p += 1;
+    for p in 1..=32768 {
+        before = print_step(out, p, before)?;
     }
+    Ok(())
 }
 
 // Zeros stand behind the costs' bits.
 fn all_bits(costs: &[f32; 301]) -> [u32; 4240] {
     let mut bits = [0u32; 4240];
-    let mut i: usize = 0;
-    while i < 301 {
+    for i in 0..301 {
         bits[i] = bits_of(costs[i]);
-        i += 1;
     }
     bits
 }
 
-fn print_line(place: u64, adapted: &[u16]) {
+fn print_line<W: Write>(out: &mut W, place: u64, adapted: &[u16]) -> io::Result<()> {
     let made = palette::make_costs(adapted);
     let costs = made.costs;
     let bits = all_bits(&costs);
-    io::print_decimal(1, place);
-    print_number(made.number as u64);
-    print_number(hash(&bits, 301));
-    io::write_all(1, b"\n");
+    write!(out, "{place}")?;
+    print_number(out, made.number as u64)?;
+    print_number(out, hash(&bits, 301))?;
+    out.write_all(b"\n")
 }
 
 // Reads the numbers that stand behind the length, and prints the table's line.
-fn replay(place: u64, count: usize)
+fn replay<R: Read, W: Write>(input: &mut R, out: &mut W, place: u64, count: usize) -> io::Result<()>
     requires { count ≤ 600 }
 {
     let mut numbers = [0u16; 600];
-    read_pairs(&mut numbers, count);
-    print_line(place, &numbers[..count]);
+    read_pairs(input, &mut numbers, count)?;
+    print_line(out, place, &numbers[..count])
 }
 
 // False once the input has no further table.
-fn replay_next(place: u64) -> bool {
+fn replay_next<R: Read, W: Write>(input: &mut R, out: &mut W, place: u64) -> io::Result<bool> {
     let mut head = [0u8; 2];
-    let got = io::read_full(0, &mut head);
+    let got = input::read_full(input, &mut head)?;
     if got < 2 {
-        return false;
+        return Ok(false);
     }
-    replay(place, size(head[0], head[1], 600));
-    true
+    replay(input, out, place, size(head[0], head[1], 600))?;
+    Ok(true)
 }
 
-fn main() {
-    print_steps();
-    let mut place: u64 = 1;
-    while place < 10000 && replay_next(place) {
-        place += 1;
+fn main(rt: HostRuntime) -> io::Result<()> {
+    let mut input = rt.stdin();
+    let mut out = rt.stdout();
+    print_steps(&mut out)?;
+    for place in 1..10000 {
+        if !replay_next(&mut input, &mut out, place)? {
+            break;
+        }
     }
+    Ok(())
 }

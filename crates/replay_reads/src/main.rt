@@ -8,12 +8,14 @@
 // Functions here may have a `requires`.
 #![tactic(auto)]
 
-ghost use Rattle.std.specs.Prelude.{◌<◌, ◌≤◌, length};
+ghost use Rattle.std.specs.Prelude.{◌≡◌, ◌<◌, ◌≤◌, length, OnErr};
 
 use replaying::{
     area, four, lines_of, print_answer, print_bytes, print_float, read_front, read_pairs, size,
     wide, word, written,
 };
+use std::io;
+use std::io::{Read, Write};
 
 #[derive(Drop)]
 struct Asked {
@@ -43,21 +45,28 @@ fn asked_by(head: &[u8; 9]) -> Asked
 }
 
 // Reads as many words into the front.
-fn read_words(words: &mut [u32], count: usize)
+fn read_words<R: Read>(input: &mut R, words: &mut [u32], count: usize) -> io::Result<()>
     requires { (count ≤ 4240) × (count ≤ length words.old) }
+    ensures { OnErr result (words.new ≡ words.old) }
 {
     let mut bytes = [0u8; 16960];
-    read_front(&mut bytes, 4 * count);
-    let mut i: usize = 0;
-    while i < count {
+    read_front(input, &mut bytes, 4 * count)?;
+    for i in 0..count {
         let at = 4 * i;
         words[i] = four(bytes[at], bytes[at + 1], bytes[at + 2], bytes[at + 3]);
-        i += 1;
     }
+    Ok(())
 }
 
 // Lends the front of both buffers, and prints the answer and what the buffers then hold.
-fn replay_read(a: Asked, cache: &[u16], words: &[u32], map: &mut [u8], flags: &mut [u8])
+fn replay_read<W: Write>(
+    out: &mut W,
+    a: Asked,
+    cache: &[u16],
+    words: &[u32],
+    map: &mut [u8],
+    flags: &mut [u8],
+) -> io::Result<()>
     requires { (a.map_room ≤ length map.old) × (a.flag_room ≤ length flags.old) }
 {
     let map_room = a.map_room;
@@ -73,50 +82,60 @@ fn replay_read(a: Asked, cache: &[u16], words: &[u32], map: &mut [u8], flags: &m
     );
     let colors = read.colors;
     let lines = lines_of(a.width, a.height, read.transposed);
-    print_answer(read.number, read.n, read.transposed, colors);
-    print_float(read.head);
-    print_float(read.map_bits);
-    print_bytes(map, written(read.number, a.cells));
-    print_bytes(flags, written(read.number, lines));
+    print_answer(out, read.number, read.n, read.transposed, colors)?;
+    print_float(out, read.head)?;
+    print_float(out, read.map_bits)?;
+    print_bytes(out, map, written(read.number, a.cells))?;
+    print_bytes(out, flags, written(read.number, lines))
 }
 
-fn print_line(place: u64, a: Asked, cache: &[u16], words: &[u32])
+fn print_line<W: Write>(
+    out: &mut W,
+    place: u64,
+    a: Asked,
+    cache: &[u16],
+    words: &[u32],
+) -> io::Result<()>
     requires { (a.map_room ≤ 4240) × (a.flag_room ≤ 80) }
 {
     let mut map = [238; 4240];
     let mut flags = [238; 80];
-    io::print_decimal(1, place);
-    replay_read(a, cache, words, &mut map, &mut flags);
-    io::write_all(1, b"\n");
+    write!(out, "{place}")?;
+    replay_read(out, a, cache, words, &mut map, &mut flags)?;
+    out.write_all(b"\n")
 }
 
 // Reads what stands behind the 9 bytes, and prints the list's line.
-fn replay(place: u64, a: Asked)
+fn replay<R: Read, W: Write>(input: &mut R, out: &mut W, place: u64, a: Asked) -> io::Result<()>
     requires { (a.cached < 256) × (a.flag_room ≤ 80) × (a.map_room ≤ 4240) × (a.count ≤ 4240) }
 {
     let mut cache = [0u16; 256];
     let mut words = [0u32; 4240];
     let cached = a.cached;
     let count = a.count;
-    read_pairs(&mut cache, cached);
-    read_words(&mut words, count);
-    print_line(place, a, &cache[..cached], &words[..count]);
+    read_pairs(input, &mut cache, cached)?;
+    read_words(input, &mut words, count)?;
+    print_line(out, place, a, &cache[..cached], &words[..count])
 }
 
 // False once the input has no further list.
-fn replay_next(place: u64) -> bool {
+fn replay_next<R: Read, W: Write>(input: &mut R, out: &mut W, place: u64) -> io::Result<bool> {
     let mut head = [0u8; 9];
-    let got = io::read_full(0, &mut head);
+    let got = input::read_full(input, &mut head)?;
     if got < 9 {
-        return false;
+        return Ok(false);
     }
-    replay(place, asked_by(&head));
-    true
+    replay(input, out, place, asked_by(&head))?;
+    Ok(true)
 }
 
-fn main() {
-    let mut place: u64 = 1;
-    while place < 10000 && replay_next(place) {
-        place += 1;
+fn main(rt: HostRuntime) -> io::Result<()> {
+    let mut input = rt.stdin();
+    let mut out = rt.stdout();
+    for place in 1..10000 {
+        if !replay_next(&mut input, &mut out, place)? {
+            break;
+        }
     }
+    Ok(())
 }

@@ -10,12 +10,14 @@
 // Functions here may have a `requires`.
 #![tactic(auto)]
 
-ghost use Rattle.std.specs.Prelude.{◌≡◌, ◌<◌, ◌≤◌, length};
+ghost use Rattle.std.specs.Prelude.{◌≡◌, ◌<◌, ◌≤◌, length, IfOk, OnErr};
 
 use accept::Palette;
 use replaying::{
     at_most, bits_of, hash_bytes, hashed, print_answer, print_float, print_number, read_pairs, size,
 };
+use std::io;
+use std::io::{Read, Write};
 use strip::{Places, Strip};
 
 // What stands in the buffers for sides, samples and costs, and the rooms that are lent. `there` is false once the input has no
@@ -57,37 +59,43 @@ fn wide(number: u16) -> usize {
 fn widen(numbers: &[u16], sides: &mut [usize], count: usize)
     requires { (count ≤ length numbers.now) × (count ≤ length sides.old) }
 {
-    let mut i: usize = 0;
-    while i < count {
+    for i in 0..count {
         sides[i] = wide(numbers[i]);
-        i += 1;
     }
 }
 
-fn read_sides(sides: &mut [usize], count: usize)
+fn read_sides<R: Read>(input: &mut R, sides: &mut [usize], count: usize) -> io::Result<()>
     requires { (length sides.old ≡ 300) × (count ≤ 300) }
+    ensures { OnErr result (sides.new ≡ sides.old) }
 {
     let mut numbers = [0u16; 300];
-    read_pairs(&mut numbers, count);
+    read_pairs(input, &mut numbers, count)?;
     widen(&numbers, sides, count);
+    Ok(())
 }
 
 // Reads the next strip.
-fn next_strip(sides: &mut [usize], samples: &mut [f32], costs: &mut [f32]) -> StripHead
+fn next_strip<R: Read>(
+    input: &mut R,
+    sides: &mut [usize],
+    samples: &mut [f32],
+    costs: &mut [f32],
+) -> io::Result<StripHead>
     requires { (length sides.old ≡ 300) × (length samples.old ≡ 8192) × (length costs.old ≡ 560) }
-    ensures map_room_bound { (result.map_room ≤ 8192) × (result.flag_room ≤ 2048) }
-    ensures sides_bound { (result.sides ≤ 300) × (result.samples ≤ 8192) × (result.costs ≤ 560) }
+    ensures map_room_bound { IfOk result (λ head. (head.map_room ≤ 8192) × (head.flag_room ≤ 2048)) }
+    ensures sides_bound { IfOk result (λ head. (head.sides ≤ 300) × (head.samples ≤ 8192) × (head.costs ≤ 560)) }
+    ensures err { OnErr result (samples.new ≡ samples.old) }
 {
     let mut bytes = [0u8; 16];
-    let got = io::read_full(0, &mut bytes);
+    let got = input::read_full(input, &mut bytes)?;
     let head = head_of(&bytes, got);
     if !head.there {
-        return head;
+        return Ok(head);
     }
-    read_sides(sides, head.sides);
-    replaying::read_costs(costs, head.costs, head.again);
-    replaying::read_floats(samples, head.samples);
-    head
+    read_sides(input, sides, head.sides)?;
+    replaying::read_costs(input, costs, head.costs, head.again)?;
+    replaying::read_floats(input, samples, head.samples)?;
+    Ok(head)
 }
 
 fn hash_colors(before: u64, colors: [u16; 8]) -> u64
@@ -95,10 +103,8 @@ fn hash_colors(before: u64, colors: [u16; 8]) -> u64
     ensures { result < 4294967291 }
 {
     let mut h = before;
-    let mut i: usize = 0;
-    while i < 8 {
-        h = hashed(h, colors[i] as u32);
-        i += 1;
+    for color in colors {
+        h = hashed(h, color as u32);
     }
     h
 }
@@ -117,25 +123,30 @@ fn hash_answer(before: u64, p: Palette) -> u64
 
 fn hash_answers(answers: [Palette; 64]) -> u64 {
     let mut h: u64 = 0;
-    let mut i: usize = 0;
-    while i < 64 {
-        h = hash_answer(h, answers[i]);
-        i += 1;
+    for answer in answers {
+        h = hash_answer(h, answer);
     }
     h
 }
 
-fn print_block(p: Palette, map: &[u8], flags: &[u8], from: Places, to: Places)
+fn print_block<W: Write>(
+    out: &mut W,
+    p: Palette,
+    map: &[u8],
+    flags: &[u8],
+    from: Places,
+    to: Places,
+) -> io::Result<()>
     requires { (to.cells ≤ length map.now) × (to.lines ≤ length flags.now) }
 {
     let colors = p.colors;
-    print_answer(p.number, p.n, p.transposed, colors);
-    print_float(palette::estimate(p));
-    print_float(p.head);
-    print_float(p.map_bits);
-    print_number(hash_bytes(map, from.cells, to.cells));
-    print_number(hash_bytes(flags, from.lines, to.lines));
-    io::write_all(1, b"\n");
+    print_answer(out, p.number, p.n, p.transposed, colors)?;
+    print_float(out, palette::estimate(p))?;
+    print_float(out, p.head)?;
+    print_float(out, p.map_bits)?;
+    print_number(out, hash_bytes(map, from.cells, to.cells))?;
+    print_number(out, hash_bytes(flags, from.lines, to.lines))?;
+    out.write_all(b"\n")
 }
 
 fn area(width: usize, height: usize) -> usize
@@ -165,18 +176,23 @@ fn past(at: Places, width: usize, height: usize) -> Places
     }
 }
 
-fn print_blocks(answers: [Palette; 64], sides: &[usize], map: &[u8], flags: &[u8])
+fn print_blocks<W: Write>(
+    out: &mut W,
+    answers: [Palette; 64],
+    sides: &[usize],
+    map: &[u8],
+    flags: &[u8],
+) -> io::Result<()>
     requires { (length map.now ≡ 8192) × (length flags.now ≡ 2048) }
 {
     let blocks = at_most(sides.len() / 2, 64);
     let mut at = Places { cells: 0, lines: 0 };
-    let mut i: usize = 0;
-    while i < blocks {
+    for i in 0..blocks {
         let end = past(at, sides[2 * i], sides[2 * i + 1]);
-        print_block(answers[i], map, flags, at, end);
+        print_block(out, answers[i], map, flags, at, end)?;
         at = end;
-        i += 1;
     }
+    Ok(())
 }
 
 // Lends the front of both buffers.
@@ -204,46 +220,68 @@ fn search_in(
 }
 
 // Prints the answers and what the buffers hold.
-fn print_strip(strip: Strip, sides: &[usize], map: &[u8], flags: &[u8])
+fn print_strip<W: Write>(
+    out: &mut W,
+    strip: Strip,
+    sides: &[usize],
+    map: &[u8],
+    flags: &[u8],
+) -> io::Result<()>
     requires { (length map.now ≡ 8192) × (length flags.now ≡ 2048) }
 {
     let answers = strip.answers;
-    print_number(strip.number as u64);
-    print_number(hash_answers(answers));
-    print_number(hash_bytes(map, 0, 8192));
-    print_number(hash_bytes(flags, 0, 2048));
-    io::write_all(1, b"\n");
+    print_number(out, strip.number as u64)?;
+    print_number(out, hash_answers(answers))?;
+    print_number(out, hash_bytes(map, 0, 8192))?;
+    print_number(out, hash_bytes(flags, 0, 2048))?;
+    out.write_all(b"\n")?;
     if strip.number == 0 {
-        print_blocks(answers, sides, map, flags);
+        print_blocks(out, answers, sides, map, flags)?;
     }
+    Ok(())
 }
 
-fn replay_strip(
+fn replay_strip<W: Write>(
+    out: &mut W,
     a: StripHead,
     sides: &[usize],
     samples: &[f32],
     costs: &[f32],
     map: &mut [u8],
     flags: &mut [u8],
-)
+) -> io::Result<()>
     requires map_len { (length map.old ≡ 8192) × (length flags.old ≡ 2048) }
     requires map_room_bound { (a.map_room ≤ 8192) × (a.flag_room ≤ 2048) }
 {
     let strip = search_in(a, sides, samples, costs, map, flags);
-    print_strip(strip, sides, map, flags);
+    print_strip(out, strip, sides, map, flags)
 }
 
-fn print_lines(place: u64, a: StripHead, sides: &[usize], samples: &[f32], costs: &[f32])
+fn print_lines<W: Write>(
+    out: &mut W,
+    place: u64,
+    a: StripHead,
+    sides: &[usize],
+    samples: &[f32],
+    costs: &[f32],
+) -> io::Result<()>
     requires { (a.map_room ≤ 8192) × (a.flag_room ≤ 2048) }
 {
     let mut map = [238; 8192];
     let mut flags = [238; 2048];
-    io::print_decimal(1, place);
-    replay_strip(a, sides, samples, costs, &mut map, &mut flags);
+    write!(out, "{place}")?;
+    replay_strip(out, a, sides, samples, costs, &mut map, &mut flags)
 }
 
 // Lends the sides, samples and costs that were read.
-fn replay(place: u64, a: StripHead, sides: &[usize], samples: &[f32], costs: &[f32])
+fn replay<W: Write>(
+    out: &mut W,
+    place: u64,
+    a: StripHead,
+    sides: &[usize],
+    samples: &[f32],
+    costs: &[f32],
+) -> io::Result<()>
     requires map_room_bound { (a.map_room ≤ 8192) × (a.flag_room ≤ 2048) }
     requires sides_in_bounds { (a.sides ≤ length sides.now) × (a.samples ≤ length samples.now) }
     requires costs_in_bounds { a.costs ≤ length costs.now }
@@ -252,31 +290,43 @@ fn replay(place: u64, a: StripHead, sides: &[usize], samples: &[f32], costs: &[f
     let sampled = a.samples;
     let costed = a.costs;
     print_lines(
+        out,
         place,
         a,
         &sides[..sided],
         &samples[..sampled],
         &costs[..costed],
-    );
+    )
 }
 
-fn replay_all(sides: &mut [usize], samples: &mut [f32], costs: &mut [f32])
+fn replay_all<R: Read, W: Write>(
+    input: &mut R,
+    out: &mut W,
+    sides: &mut [usize],
+    samples: &mut [f32],
+    costs: &mut [f32],
+) -> io::Result<()>
     requires { (length sides.old ≡ 300) × (length samples.old ≡ 8192) × (length costs.old ≡ 560) }
 {
-    let mut place: u64 = 1;
-    while place < 10000 {
-        let a = next_strip(sides, samples, costs);
+    for place in 1..10000 {
+        let a = next_strip(input, sides, samples, costs)?;
         if !a.there {
-            return;
+            break;
         }
-        replay(place, a, sides, samples, costs);
-        place += 1;
+        replay(out, place, a, sides, samples, costs)?;
     }
+    Ok(())
 }
 
-fn main() {
+fn main(rt: HostRuntime) -> io::Result<()> {
     let mut sides = [0usize; 300];
     let mut samples = [0.0; 8192];
     let mut costs = [0.0; 560];
-    replay_all(&mut sides, &mut samples, &mut costs);
+    replay_all(
+        &mut rt.stdin(),
+        &mut rt.stdout(),
+        &mut sides,
+        &mut samples,
+        &mut costs,
+    )
 }

@@ -1,11 +1,16 @@
-// What the programs that replay the original's answers have in common: numbers from bytes of standard input, and a
-// line's numbers, with the hash and the untouched rest of a buffer of 4,240 places (oracle/README.md).
+// What the programs that replay the original's answers have in common: numbers from bytes of an input, and a line's
+// numbers, with the hash and the untouched rest of a buffer of 4,240 places (oracle/README.md). An input that ends early
+// leaves zeros in place of the bytes that it lacks; a read or a write that fails ends the program.
 // Functions here may have a `requires`.
 #![tactic(auto)]
 
-ghost use Rattle.std.specs.Prelude.{◌≡◌, cond, ◌+◌, ◌*◌, ◌<◌, ◌≤◌, min, eqb, length};
+ghost use Rattle.std.specs.Prelude.{◌≡◌, cond, ◌+◌, ◌*◌, ◌<◌, ◌≤◌, min, eqb, length, drop, ◌++◌, codes, decimal, IfOk, OnOk, OnErr};
 ghost use Rattle.std.specs.Float.{binary32};
 ghost use Rattle.std.specs.Float.Ieee.{eq, to_bits};
+ghost use Rattle.std.specs.Io.KnownBytes.{Appends};
+
+use std::io;
+use std::io::{Read, Write};
 
 pub fn word(b: u8) -> u32
     ensures { result ≡ b }
@@ -52,23 +57,26 @@ pub fn area(width: u8, height: u8) -> usize {
     (width as usize) * (height as usize)
 }
 
-pub fn read_front(bytes: &mut [u8], count: usize)
+// Reads as many bytes into the front. What stands behind them stays.
+pub fn read_front<R: Read>(input: &mut R, bytes: &mut [u8], count: usize) -> io::Result<()>
     requires { count ≤ length bytes.old }
+    ensures { drop count bytes.new ≡ drop count bytes.old }
 {
-    io::read_full(0, &mut bytes[..count]);
+    input::read_full(input, &mut bytes[..count])?;
+    Ok(())
 }
 
 // Reads as many numbers into the front, of two bytes each.
-pub fn read_pairs(numbers: &mut [u16], count: usize)
+pub fn read_pairs<R: Read>(input: &mut R, numbers: &mut [u16], count: usize) -> io::Result<()>
     requires { (count ≤ 600) × (count ≤ length numbers.old) }
+    ensures { OnErr result (numbers.new ≡ numbers.old) }
 {
     let mut bytes = [0u8; 1200];
-    read_front(&mut bytes, 2 * count);
-    let mut i: usize = 0;
-    while i < count {
+    read_front(input, &mut bytes, 2 * count)?;
+    for i in 0..count {
         numbers[i] = pair(bytes[2 * i], bytes[2 * i + 1]);
-        i += 1;
     }
+    Ok(())
 }
 
 // One step of the hash: times 65,599 and plus the word, below a prime, so that nothing wraps.
@@ -83,10 +91,8 @@ pub fn hash(words: &[u32; 4240], count: usize) -> u64
     requires { count ≤ 4240 }
 {
     let mut h: u64 = 0;
-    let mut i: usize = 0;
-    while i < count {
-        h = hashed(h, words[i]);
-        i += 1;
+    for word in &words[..count] {
+        h = hashed(h, *word);
     }
     h
 }
@@ -96,22 +102,18 @@ pub fn hash_bytes(bytes: &[u8], from: usize, to: usize) -> u64
     requires { to ≤ length bytes.now }
 {
     let mut h: u64 = 0;
-    let mut i = from;
-    while i < to {
+    for i in from..to {
         h = hashed(h, word(bytes[i]));
-        i += 1;
     }
     h
 }
 
 // 1 where all words from a place on are as before the call, else 0.
 fn kept(words: &[u32; 4240], from: usize, before: u32) -> u64 {
-    let mut i = from;
-    while i < 4240 {
+    for i in from..4240 {
         if words[i] != before {
             return 0;
         }
-        i += 1;
     }
     1
 }
@@ -133,40 +135,46 @@ pub fn written(number: u32, count: usize) -> usize
     if number == 0 { count } else { 0 }
 }
 
-pub fn print_number(v: u64) {
-    io::write_all(1, b" ");
-    io::print_decimal(1, v);
+pub fn print_number<W: Write>(out: &mut W, v: u64) -> io::Result<()>
+    ensures { OnOk result (Appends (W.contents out.old) (W.contents out.new) (codes " " ++ decimal v)) }
+{
+    write!(out, " {v}")
 }
 
 // A float, by its bits.
-pub fn print_float(v: f32) {
-    print_number(bits_of(v) as u64);
+pub fn print_float<W: Write>(out: &mut W, v: f32) -> io::Result<()>
+    ensures { OnOk result (Appends (W.contents out.old) (W.contents out.new)
+        (codes " " ++ decimal (cond (eq v v) (to_bits binary32 v) 4294967295))) }
+{
+    print_number(out, bits_of(v) as u64)
 }
 
 // The hash of what was written, and whether the places behind it are as before the call.
-pub fn print_buffer(words: &[u32; 4240], count: usize, before: u32) {
-    print_number(hash(words, at_most(count, 4240)));
-    print_number(kept(words, count, before));
+pub fn print_buffer<W: Write>(
+    out: &mut W,
+    words: &[u32; 4240],
+    count: usize,
+    before: u32,
+) -> io::Result<()> {
+    print_number(out, hash(words, at_most(count, 4240)))?;
+    print_number(out, kept(words, count, before))
 }
 
 // The bytes as words, with the byte of a fresh buffer behind them.
 fn words_of(bytes: &[u8]) -> [u32; 4240] {
     let mut words = [238; 4240];
     let count = at_most(bytes.len(), 4240);
-    let mut i: usize = 0;
-    while i < count {
+    for i in 0..count {
         words[i] = word(bytes[i]);
-        i += 1;
     }
     words
 }
 
-fn print_colors(colors: [u16; 8]) {
-    let mut i: usize = 0;
-    while i < 8 {
-        print_number(colors[i] as u64);
-        i += 1;
+fn print_colors<W: Write>(out: &mut W, colors: [u16; 8]) -> io::Result<()> {
+    for color in colors {
+        print_number(out, color as u64)?;
     }
+    Ok(())
 }
 
 pub fn lines_of(width: usize, height: usize, transposed: bool) -> usize {
@@ -178,16 +186,22 @@ fn orientation(transposed: bool) -> u64 {
 }
 
 // The fields of a palette that was found or read.
-pub fn print_answer(number: u32, n: usize, transposed: bool, colors: [u16; 8]) {
-    print_number(number as u64);
-    print_number(n as u64);
-    print_number(orientation(transposed));
-    print_colors(colors);
+pub fn print_answer<W: Write>(
+    out: &mut W,
+    number: u32,
+    n: usize,
+    transposed: bool,
+    colors: [u16; 8],
+) -> io::Result<()> {
+    print_number(out, number as u64)?;
+    print_number(out, n as u64)?;
+    print_number(out, orientation(transposed))?;
+    print_colors(out, colors)
 }
 
-pub fn print_bytes(bytes: &[u8], count: usize) {
+pub fn print_bytes<W: Write>(out: &mut W, bytes: &[u8], count: usize) -> io::Result<()> {
     let words = words_of(bytes);
-    print_buffer(&words, count, 238);
+    print_buffer(out, &words, count, 238)
 }
 
 // A block to be searched: its sides, depth and lambda, the rooms for its map and flags, and how many samples and costs
@@ -238,44 +252,56 @@ fn head_of(head: &[u8; 15], got: usize) -> BlockHead
 }
 
 // Reads as many floats into the front.
-pub fn read_floats(floats: &mut [f32], count: usize)
+pub fn read_floats<R: Read>(input: &mut R, floats: &mut [f32], count: usize) -> io::Result<()>
     requires { (count ≤ 8192) × (count ≤ length floats.old) }
+    ensures { OnErr result (floats.new ≡ floats.old) }
 {
     let mut bytes = [0u8; 32768];
-    read_front(&mut bytes, 4 * count);
-    let mut i: usize = 0;
-    while i < count {
+    read_front(input, &mut bytes, 4 * count)?;
+    for i in 0..count {
         let at = 4 * i;
         floats[i] = float(bytes[at], bytes[at + 1], bytes[at + 2], bytes[at + 3]);
-        i += 1;
     }
+    Ok(())
 }
 
 // Reads the costs, unless those before serve again.
-pub fn read_costs(costs: &mut [f32], count: usize, again: bool)
+pub fn read_costs<R: Read>(
+    input: &mut R,
+    costs: &mut [f32],
+    count: usize,
+    again: bool,
+) -> io::Result<()>
     requires { (length costs.old ≡ 560) × (count ≤ 560) }
+    ensures { OnErr result (costs.new ≡ costs.old) }
 {
     if again {
-        return;
+        return Ok(());
     }
-    read_floats(costs, count);
+    read_floats(input, costs, count)
 }
 
 // Reads the next block. It is 15 bytes: width, height, bd, flag room; then map room, sample count and cost count, each of
 // two bytes, the low one first; lambda's bits, of four; and 1 where the costs of the block before serve again, else 0.
 // Behind them stand the costs (none where they serve again) and the samples, each by its bits, of four bytes, the low one
 // first.
-pub fn next_block(samples: &mut [f32], costs: &mut [f32]) -> BlockHead
+pub fn next_block<R: Read>(
+    input: &mut R,
+    samples: &mut [f32],
+    costs: &mut [f32],
+) -> io::Result<BlockHead>
     requires { (length samples.old ≡ 4200) × (length costs.old ≡ 560) }
-    ensures { (result.flag_room ≤ 80) × (result.map_room ≤ 4240) × (result.samples ≤ 4200) × (result.costs ≤ 560) }
+    ensures bounds { IfOk result (λ head. (head.flag_room ≤ 80) × (head.map_room ≤ 4240) × (head.samples ≤ 4200)
+        × (head.costs ≤ 560)) }
+    ensures err { OnErr result (samples.new ≡ samples.old) }
 {
     let mut bytes = [0u8; 15];
-    let got = io::read_full(0, &mut bytes);
+    let got = input::read_full(input, &mut bytes)?;
     let head = head_of(&bytes, got);
     if !head.there {
-        return head;
+        return Ok(head);
     }
-    read_costs(costs, head.costs, head.again);
-    read_floats(samples, head.samples);
-    head
+    read_costs(input, costs, head.costs, head.again)?;
+    read_floats(input, samples, head.samples)?;
+    Ok(head)
 }

@@ -3,12 +3,14 @@
 // the turns print the whole input's report; it stands at this room in the proofs (`read_enough`).
 #![tactic(auto)]
 
-ghost use Rattle.std.specs.Prelude.{◌≡◌, ◌≤◌, length};
-ghost use Rattle.window.specs.Window.{Inside};
+ghost use Rattle.std.specs.Prelude.{◌≡◌, ◌-◌, ◌≤◌, length, take, IfOk, OnErr};
+ghost use Rattle.window.specs.Window.{view, Inside};
 ghost use Rattle.reporting.specs.Steps.{Fits};
 ghost use Rattle.report.specs.Turn.{Turns};
 
 use reporting::Page;
+use std::io;
+use std::io::{Read, Write};
 use window::Window;
 
 // A turn: how many bytes it printed, how many it took (0 where the reading has ended), the page and the window after it.
@@ -20,13 +22,21 @@ pub struct Turned {
     pub window: Window,
 }
 
-// Reads more where there is not enough for a step, steps, and drops what the step took.
-fn turn(buf: &mut [u8], w: Window, p: Page, out: &mut [u8]) -> Turned
+// Reads more where there is not enough for a step, steps, and drops what the step took. Where the read fails nothing was
+// printed, and what was before the program stands at the buffer's front.
+fn turn<R: Read>(
+    input: &mut R,
+    buf: &mut [u8],
+    w: Window,
+    p: Page,
+    out: &mut [u8],
+) -> io::Result<Turned>
     requires { Inside w buf.old × (length buf.old ≡ 65536) × Fits p × (p.lines ≤ 9999) × (90 ≤ length out.old) }
-    ensures turns { Turns w p buf.old buf.new out.old out.new result }
-    ensures fits { Fits result.page × (result.count ≤ 90) }
+    ensures turns { IfOk result (λ r. Turns w p buf.old buf.new out.old out.new r) }
+    ensures fits { IfOk result (λ r. Fits r.page × (r.count ≤ 90)) }
+    ensures err { OnErr result ((out.new ≡ out.old) × (take (w.end - w.at) buf.new ≡ view w buf.old)) }
 {
-    let held = window::hold(buf, w, 33972);
+    let held = window::hold(input, buf, w, 33972)?;
     let at = held.at;
     let end = held.end;
     let more = held.more;
@@ -38,34 +48,34 @@ fn turn(buf: &mut [u8], w: Window, p: Page, out: &mut [u8]) -> Turned
         end,
         more,
     };
-    Turned {
+    Ok(Turned {
         count: s.count,
         taken,
         page,
         window,
-    }
+    })
 }
 
-// Turn after turn, until the reading ends or nothing more can be written.
-fn walk(buf: &mut [u8])
+// Turn after turn, until the reading ends.
+fn walk<R: Read, W: Write>(input: &mut R, out: &mut W, buf: &mut [u8]) -> io::Result<()>
     requires { length buf.old ≡ 65536 }
 {
-    let mut out = [0u8; 90];
+    let mut line = [0u8; 90];
     let mut w = window::unread_input();
     let mut page = reporting::blank_page();
     loop {
-        let r = turn(buf, w, page, &mut out);
+        let r = turn(input, buf, w, page, &mut line)?;
         let count = r.count;
-        let written = io::write_all(1, &out[..count]);
-        if (r.taken == 0) | !written {
-            return;
+        out.write_all(&line[..count])?;
+        if r.taken == 0 {
+            return Ok(());
         }
         page = r.page;
         w = r.window;
     }
 }
 
-fn main() {
-    let mut buf = io::large_buffer();
-    walk(&mut buf);
+fn main(rt: HostRuntime) -> io::Result<()> {
+    let mut buf = [0u8; 65536];
+    walk(&mut rt.stdin(), &mut rt.stdout(), &mut buf)
 }

@@ -7,6 +7,9 @@
 
 ghost use Rattle.std.specs.Prelude.{◌<◌, ◌≤◌, ◌*◌, ◌≡◌, length};
 
+use std::io;
+use std::io::Write;
+
 fn level(i: usize, levels: usize) -> f32
     requires { (0 < levels) × (levels ≤ 256) }
 {
@@ -19,10 +22,8 @@ fn cycle(levels: usize) -> [f32; 512]
     ensures { 512 ≡ length result }
 {
     let mut block = [0.0; 512];
-    let mut i: usize = 0;
-    while i < 512 {
+    for i in 0..512 {
         block[i] = level(i, levels);
-        i += 1;
     }
     block
 }
@@ -40,23 +41,22 @@ fn number(samples: &[f32], width: usize, height: usize) -> u32 {
     found.number
 }
 
-fn print_number(name: &[u8], v: u32) {
-    io::write_all(1, name);
-    io::print_decimal(1, v as u64);
-    io::write_all(1, b"\n");
+fn print_number<W: Write>(out: &mut W, name: &[u8], v: u32) -> io::Result<()> {
+    out.write_all(name)?;
+    writeln!(out, "{v}")
 }
 
-fn print_halves(name: &[u8], a: f32, b: f32) {
+fn print_halves<W: Write>(out: &mut W, name: &[u8], a: f32, b: f32) -> io::Result<()> {
     let block = halves(a, b);
-    print_number(name, number(&block, 16, 1));
+    print_number(out, name, number(&block, 16, 1))
 }
 
-fn print_cycle(name: &[u8], levels: usize, side: usize)
+fn print_cycle<W: Write>(out: &mut W, name: &[u8], levels: usize, side: usize) -> io::Result<()>
     requires { (0 < levels) × (levels ≤ 256) × (side * side ≤ 512) }
 {
     let block = cycle(levels);
     let cells = side * side;
-    print_number(name, number(&block[..cells], side, side));
+    print_number(out, name, number(&block[..cells], side, side))
 }
 
 // The call behind the literals of two colours: the size, three literals, and then this one. 0 where nothing is listed.
@@ -102,18 +102,18 @@ fn call_behind_literals(samples: &[f32], width: usize, map: &mut [u8], flags: &m
 }
 
 // A bypass call of width 1 is the orientation bit; a row call under context 3 begins the first line.
-fn print_bit(name: &[u8], call: u32) {
-    io::write_all(1, name);
+fn print_bit<W: Write>(out: &mut W, name: &[u8], call: u32) -> io::Result<()> {
+    out.write_all(name)?;
     if call / 65536 == 257 {
-        io::write_all(1, b"an orientation bit\n");
+        out.write_all(b"an orientation bit\n")
     } else if call / 65536 == 1027 {
-        io::write_all(1, b"no orientation bit\n");
+        out.write_all(b"no orientation bit\n")
     } else {
-        io::write_all(1, b"no list\n");
+        out.write_all(b"no list\n")
     }
 }
 
-fn print_high_8(name: &[u8], width: usize)
+fn print_high_8<W: Write>(out: &mut W, name: &[u8], width: usize) -> io::Result<()>
     requires { width ≤ 64 }
 {
     let block = cycle(2);
@@ -121,9 +121,10 @@ fn print_high_8(name: &[u8], width: usize)
     let mut flags = [0u8; 64];
     let cells = width * 8;
     print_bit(
+        out,
         name,
         call_behind_literals(&block[..cells], width, &mut map, &mut flags),
-    );
+    )
 }
 
 // What the search of a block of 16 by 1 gives.
@@ -154,20 +155,16 @@ fn searched(block: [f32; 16], lambda: f32) -> Row {
 
 // The whole number below 1,000 that a float is, or 1,000.
 fn whole(value: f32) -> u16 {
-    let mut k: u16 = 0;
-    while k < 1000 {
+    for k in 0..1000u16 {
         if (k as f32) == value {
             return k;
         }
-        k += 1;
     }
-    k
+    1000
 }
 
-fn print_estimate(estimate: f32) {
-    io::write_all(1, b", estimate ");
-    io::print_decimal(1, whole(estimate) as u64);
-    io::write_all(1, b"\n");
+fn print_estimate<W: Write>(out: &mut W, estimate: f32) -> io::Result<()> {
+    writeln!(out, ", estimate {}", whole(estimate))
 }
 
 fn eight_at_most(n: usize) -> usize
@@ -176,36 +173,32 @@ fn eight_at_most(n: usize) -> usize
     if n < 8 { n } else { 8 }
 }
 
-fn print_colors(n: usize, colors: [u16; 8]) {
-    let count = eight_at_most(n);
-    let mut i: usize = 0;
-    while i < count {
-        io::write_all(1, b" ");
-        io::print_decimal(1, colors[i] as u64);
-        i += 1;
+fn print_colors<W: Write>(out: &mut W, n: usize, colors: [u16; 8]) -> io::Result<()> {
+    for color in &colors[..eight_at_most(n)] {
+        write!(out, " {color}")?;
     }
+    Ok(())
 }
 
-fn print_orientation(transposed: bool) {
+fn print_orientation<W: Write>(out: &mut W, transposed: bool) -> io::Result<()> {
     if transposed {
-        io::write_all(1, b", transposed");
+        out.write_all(b", transposed")
     } else {
-        io::write_all(1, b", plain");
+        out.write_all(b", plain")
     }
 }
 
-fn print_tens() {
+fn print_tens<W: Write>(out: &mut W) -> io::Result<()> {
     let row = searched(halves(10.0, 20.0), 0.0);
     let colors = row.colors;
-    io::write_all(1, b"eight 10s, eight 20s, lambda 0: colours");
-    print_colors(row.n, colors);
-    print_orientation(row.transposed);
-    io::write_all(1, b", flag ");
-    io::print_decimal(1, row.flag as u64);
-    print_estimate(row.estimate);
+    out.write_all(b"eight 10s, eight 20s, lambda 0: colours")?;
+    print_colors(out, row.n, colors)?;
+    print_orientation(out, row.transposed)?;
+    write!(out, ", flag {}", row.flag)?;
+    print_estimate(out, row.estimate)
 }
 
-fn print_ties() {
+fn print_ties<W: Write>(out: &mut W) -> io::Result<()> {
     let row = searched(
         [
             1.0, 2.0, 2.0, 2.0, 2.0, 2.0, 2.0, 2.0, 2.0, 2.0, 2.0, 2.0, 2.0, 2.0, 2.0, 3.0,
@@ -213,12 +206,12 @@ fn print_ties() {
         1.0,
     );
     let colors = row.colors;
-    io::write_all(1, b"1, fourteen 2s, 3: colours");
-    print_colors(row.n, colors);
-    io::write_all(1, b"\n");
+    out.write_all(b"1, fourteen 2s, 3: colours")?;
+    print_colors(out, row.n, colors)?;
+    out.write_all(b"\n")
 }
 
-fn print_stop() {
+fn print_stop<W: Write>(out: &mut W) -> io::Result<()> {
     let row = searched(
         [
             10.25, 10.25, 10.25, 13.5, 13.5, 13.5, 13.5, 13.5, 13.5, 11.5, 11.5, 11.5, 11.5, 11.5,
@@ -226,14 +219,13 @@ fn print_stop() {
         ],
         0.375,
     );
-    io::write_all(1, b"three 10.25s, six 13.5s, seven 11.5s, lambda 0.375: ");
-    io::print_decimal(1, row.n as u64);
-    io::write_all(1, b" colours");
-    print_estimate(row.estimate);
+    out.write_all(b"three 10.25s, six 13.5s, seven 11.5s, lambda 0.375: ")?;
+    write!(out, "{} colours", row.n)?;
+    print_estimate(out, row.estimate)
 }
 
 // The smallest block on which another size won where the float unit takes subnormal numbers for 0.
-fn print_narrowed() {
+fn print_narrowed<W: Write>(out: &mut W) -> io::Result<()> {
     let row = searched(
         [
             18.5, 17.75, 16.0, 16.0, 16.0, 16.0, 17.75, 16.0, 16.0, 16.0, 16.0, 16.0, 16.0, 17.75,
@@ -242,21 +234,22 @@ fn print_narrowed() {
         0.0,
     );
     let colors = row.colors;
-    io::write_all(1, b"18.5, three 17.75s, twelve 16s, lambda 0: colours");
-    print_colors(row.n, colors);
-    print_estimate(row.estimate);
+    out.write_all(b"18.5, three 17.75s, twelve 16s, lambda 0: colours")?;
+    print_colors(out, row.n, colors)?;
+    print_estimate(out, row.estimate)
 }
 
-fn main() {
-    print_halves(b"10.0 and 10.4 only: ", 10.0, 10.4);
-    print_cycle(b"32 levels: ", 32, 16);
-    print_cycle(b"33 levels: ", 33, 16);
-    print_cycle(b"15 by 15: ", 2, 15);
-    print_halves(b"16 by 1: ", 10.0, 20.0);
-    print_high_8(b"64 by 8: ", 64);
-    print_high_8(b"63 by 8: ", 63);
-    print_tens();
-    print_ties();
-    print_stop();
-    print_narrowed();
+fn main(rt: HostRuntime) -> io::Result<()> {
+    let mut out = rt.stdout();
+    print_halves(&mut out, b"10.0 and 10.4 only: ", 10.0, 10.4)?;
+    print_cycle(&mut out, b"32 levels: ", 32, 16)?;
+    print_cycle(&mut out, b"33 levels: ", 33, 16)?;
+    print_cycle(&mut out, b"15 by 15: ", 2, 15)?;
+    print_halves(&mut out, b"16 by 1: ", 10.0, 20.0)?;
+    print_high_8(&mut out, b"64 by 8: ", 64)?;
+    print_high_8(&mut out, b"63 by 8: ", 63)?;
+    print_tens(&mut out)?;
+    print_ties(&mut out)?;
+    print_stop(&mut out)?;
+    print_narrowed(&mut out)
 }

@@ -1,11 +1,5 @@
 use Prim.Native.Nat.{◌-◌, ◌≤◌}
-use mathlib.Core.Path.{◌≡◌, refl, ◌∙◌}
-use native.Mathlib.Omega.{arith}
-use lib.ListN.{length, length-set}
-use borrow.Author.Rules.{rules}
 use Rattle.near.specs.Near.{Below}
-use Rattle.scan.proofs.Fill.{below_set}
-use Rattle.guess_map.proofs.Guess.{before_inside}
 use Rattle.guess_map.proofs.fill_rows.Given as goal
 
 abbrev pub invariant-loop-a : goal.invariant-loop-a

@@ -1,5 +1,4 @@
 use native.Mathlib.Omega.{arith}
-use borrow.Author.Rules.{rules}
 use Rattle.guess_map.proofs.Guess.{before_inside}
 use Rattle.guess_map.proofs.first_before.Goals as goal
 

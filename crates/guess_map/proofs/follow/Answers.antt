@@ -1,6 +1,4 @@
-use Prim.Native.Nat.{◌-◌, ◌≤◌}
 use native.Mathlib.Omega.{arith}
-use borrow.Author.Rules.{rules}
 use Rattle.guess_map.proofs.follow.Goals as goal
 
 pub overflow_mul-line : goal.overflow_mul-line

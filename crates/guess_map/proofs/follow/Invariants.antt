@@ -1,6 +1,4 @@
 use Prim.Native.Nat.{◌-◌, ◌≤◌}
-use native.Mathlib.Omega.{arith}
-use borrow.Author.Rules.{rules}
 use Rattle.guess_map.proofs.follow.Given as goal
 
 abbrev pub invariant-loop-a : goal.invariant-loop-a

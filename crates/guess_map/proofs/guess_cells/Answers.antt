@@ -1,5 +1,4 @@
 use native.Mathlib.Omega.{arith}
-use borrow.Author.Rules.{rules}
 use Rattle.lists.proofs.Zeros.{zeros_below}
 use Rattle.guess_map.proofs.guess_cells.Goals as goal
 

@@ -2,7 +2,6 @@ use Prim.Native.Nat.{◌-◌, ◌<◌}
 use native.Mathlib.Omega.{arith}
 use lib.Dec.{eqb}
 use lib.ListN.{length}
-use borrow.Author.Rules.{rules}
 use borrow.Author.Tests.{ltb-true}
 use Rattle.lists.proofs.Choice.{and_r}
 use Rattle.scan.specs.Scan.{place_at, cell_in}

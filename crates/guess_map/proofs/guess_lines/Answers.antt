@@ -1,8 +1,6 @@
-use Prim.Native.Nat.{◌-◌}
-use mathlib.Core.Path.{◌≡◌, refl, ◌∙◌}
+use mathlib.Core.Path.{refl, ◌∙◌}
 use native.Mathlib.Omega.{arith}
-use lib.ListN.{length, length-set}
-use Rattle.near.specs.Near.{Below}
+use lib.ListN.{length-set}
 use Rattle.guess_map.proofs.guess_lines.Goals as goal
 
 pub loop-l-init : goal.loop-l-init

@@ -1,4 +1,3 @@
-use borrow.Author.Rules.{rules}
 use Rattle.guess_map.proofs.index_in.Goals as goal
 
 pub returns : goal.returns

@@ -1,9 +1,6 @@
-use Prim.Native.Nat.{◌-◌}
-use mathlib.Core.Path.{◌≡◌, refl, ◌∙◌}
+use mathlib.Core.Path.{refl, ◌∙◌}
 use native.Mathlib.Omega.{arith}
-use lib.ListN.{length, length-set}
-use borrow.Author.Rules.{rules}
-use Rattle.near.specs.Near.{Below}
+use lib.ListN.{length-set}
 use Rattle.scan.proofs.Fill.{below_set}
 use Rattle.guess_map.proofs.put_line.Goals as goal
 

@@ -1,10 +1,7 @@
 use Prim.Native.Nat.{◌-◌}
-use mathlib.Core.Path.{◌≡◌, refl, ◌∙◌}
-use native.Mathlib.Omega.{arith}
-use lib.ListN.{length, length-set}
-use borrow.Author.Rules.{rules}
+use mathlib.Core.Path.{◌≡◌}
+use lib.ListN.{length}
 use Rattle.near.specs.Near.{Below}
-use Rattle.scan.proofs.Fill.{below_set}
 use Rattle.guess_map.proofs.put_line.Given as goal
 
 abbrev pub invariant-loop-a : goal.invariant-loop-a

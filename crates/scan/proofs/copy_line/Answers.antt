@@ -3,7 +3,7 @@ use Rattle.scan.proofs.Fill.{fill_other}
 use Rattle.scan.specs.Scan.{place_at, cell_in, fill}
 use native.Mathlib.Numerals.{add-one}
 use lib.ListN.{length, set, length-set}
-use Prim.Native.Nat.{ℕ, ◌-◌, ◌<◌, ◌≤◌}
+use Prim.Native.Nat.{ℕ, ◌-◌, ◌<◌}
 use native.Mathlib.Omega.{arith}
 use mathlib.Core.Path.{◌≡◌, refl, ap, ◌∙◌}
 use Rattle.scan.proofs.copy_line.Goals as goal
@@ -40,10 +40,10 @@ pub place-q-requires : goal.place-q-requires
 place-q-requires c = omega (arith, above c, c.requires.0.small)
 
 pub bounds-map-q : goal.bounds-map-q
-bounds-map-q c = omega (arith, c.place-q.ensures, above c.before.before, c.loop-a.invariant.1)
+bounds-map-q c = omega (arith, c.place-q.ensures, above c.before.before.before, c.loop-a.invariant.1)
 
 pub place-p-requires : goal.place-p-requires
-place-p-requires c = omega (arith, inside c.before.before, c.requires.0.small)
+place-p-requires c = omega (arith, inside c.before.before.before, c.requires.0.small)
 
 pub bounds-map-p : goal.bounds-map-p
 bounds-map-p c = omega (arith, c.place-p.ensures, inside c.before.before.before, c.loop-a.invariant.1)

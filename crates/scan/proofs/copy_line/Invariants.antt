@@ -1,11 +1,7 @@
-use mathlib.Core.List.{List}
-use Rattle.scan.proofs.Fill.{fill_other}
-use Rattle.scan.specs.Scan.{place_at, cell_in, fill}
-use native.Mathlib.Numerals.{add-one}
-use lib.ListN.{length, set, length-set}
-use Prim.Native.Nat.{ℕ, ◌-◌, ◌<◌, ◌≤◌}
-use native.Mathlib.Omega.{arith}
-use mathlib.Core.Path.{◌≡◌, refl, ap, ◌∙◌}
+use Rattle.scan.specs.Scan.{cell_in, fill}
+use lib.ListN.{length}
+use Prim.Native.Nat.{◌-◌, ◌≤◌}
+use mathlib.Core.Path.{◌≡◌}
 use Rattle.scan.proofs.copy_line.Given as goal
 
 abbrev pub invariant-loop-a : goal.invariant-loop-a

@@ -1,7 +1,7 @@
 use Rattle.scan.specs.Scan.{place_at, fill}
 use native.Mathlib.Numerals.{add-one}
 use lib.ListN.{length, length-set}
-use Prim.Native.Nat.{ℕ, ◌-◌, ◌<◌, ◌≤◌}
+use Prim.Native.Nat.{ℕ, ◌<◌}
 use native.Mathlib.Omega.{arith}
 use mathlib.Core.Path.{◌≡◌, refl, ap, ◌∙◌}
 use Rattle.scan.proofs.fill_line.Goals as goal
