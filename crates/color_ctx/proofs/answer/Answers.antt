@@ -1,10 +1,10 @@
 use mathlib.Core.Path.{◌≡◌, refl, ap, ◌∙◌}
-use Prim.Native.Nat.{◌-◌, ◌≤◌, ◌<◌}
+use Prim.Native.Nat.{◌<◌}
 use native.Mathlib.Omega.{arith}
-use Rattle.context.specs.Order.{Around, by_three, order_of}
+use Rattle.context.specs.Order.{Around, by_three}
 use Rattle.rows.specs.Rows.{around_row, Fits}
-use Rattle.color_ctx.specs.Context.{ranks_of, answered}
-use Rattle.color_ctx.proofs.Filling.{row_known, filling, order_turn, ranks_turn, filled}
+use Rattle.color_ctx.specs.Context.{answered}
+use Rattle.color_ctx.proofs.Filling.{row_known, order_turn, ranks_turn, filled}
 use borrow.Author.Rules.{rules}
 use Rattle.color_ctx.proofs.answer.Goals as goal
 use Rattle.color_ctx.proofs.answer.Goals.{After-row_of-row, Start}

@@ -1,21 +1,14 @@
 use mathlib.Core.Path.{◌≡◌, refl, sym, ◌∙◌}
-use Prim.Native.Nat.{ℕ, ◌+◌, ◌-◌, ◌*◌, ◌≤◌}
+use Prim.Native.Nat.{◌+◌, ◌-◌, ◌*◌, ◌≤◌}
 use native.Mathlib.Nat.{mul-le-mul_right}
 use native.Mathlib.Omega.{arith}
 use lib.ListN.{length}
 use borrow.Author.Tests.{lt-leb, le-ltb}
-use borrow.Author.Rules.{rules}
-use Rattle.color_ctx.specs.Parts.{three_at}
 use Rattle.color_ctx.specs.Context.{context_ok, context_of}
 use Rattle.lists.proofs.Choice.{and_false}
 use Rattle.color_ctx.proofs.Parts.{one_min, three_past, at_top, at_side, at_inside}
 use Rattle.color_ctx.proofs.color_ctx.Goals as goal
-use Rattle.color_ctx.proofs.color_ctx.Goals.{Else-left-map, Else-x-eq0-2}
-
-inside : (c : Else-x-eq0-2) (p : ℕ) → p ≡ c.args.y * c.args.stride + (c.args.x - 1)
-    → context_of c.args.map.now c.args.stride c.args.y c.args.x c.args.n
-    ≡ three_at c.args.map.now c.args.n p (p + 1 - c.args.stride) (p - c.args.stride)
-inside c p = at_inside _ _ _ (omega arith) (omega arith) _ _ p (omega arith) (omega arith) (omega arith)
+use Rattle.color_ctx.proofs.color_ctx.Goals.{Else-left-map}
 
 -- the place of the left neighbour
 found : (c : Else-left-map) → c.place_of-left.result ≡ c.args.y * c.args.stride + (c.args.x - 1)
@@ -56,8 +49,11 @@ returns-then-x-eq0-2 c =
 
 pub returns-then-left-map : goal.returns-then-left-map
 returns-then-left-map c =
-    let past : length c.args.map.now ≤ c.args.y * c.args.stride + (c.args.x - 1) = omega (arith, c.place_of-left.ensures, c.if-left-map.true) in
-    c.refuse-then-left-map.ensures ∙ sym (inside c.before.before.before.before _ refl ∙ three_past _ _ _ _ _ past)
+    let a = c.args in
+    let p = a.y * a.stride + (a.x - 1) in
+    let past : length a.map.now ≤ p = omega (arith, c.place_of-left.ensures, c.if-left-map.true) in
+    let inside = at_inside a.map.now a.stride a.n (omega arith) (omega arith) a.y a.x p (omega arith) (omega arith) (omega arith) refl in
+    c.refuse-then-left-map.ensures ∙ sym (inside ∙ three_past _ _ _ _ _ past)
 
 pub overflow_sub-left : goal.overflow_sub-left
 overflow_sub-left c = omega (arith, row_above c)
@@ -66,4 +62,9 @@ pub overflow_sub-left-2 : goal.overflow_sub-left-2
 overflow_sub-left-2 c = row_above c
 
 pub returns : goal.returns
-returns c = c.from_three.ensures ∙ sym (inside c.before.before.before.before _ (found c.before))
+returns c =
+    let a = c.args in
+    let p = c.place_of-left.result in
+    let is : p ≡ a.y * a.stride + (a.x - 1) = omega (arith, c.place_of-left.ensures, c.if-left-map.false) in
+    let inside = at_inside a.map.now a.stride a.n (omega arith) (omega arith) a.y a.x p (omega arith) (omega arith) (omega arith) is in
+    c.from_three.ensures ∙ sym inside

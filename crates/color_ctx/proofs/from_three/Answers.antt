@@ -1,5 +1,4 @@
 use mathlib.Core.Path.{refl, sym, ◌∙◌}
-use borrow.Author.Rules.{rules}
 use Rattle.lists.specs.Counted.{all_in}
 use Rattle.color_ctx.specs.Parts.{three_at}
 use Rattle.color_ctx.proofs.Parts.{color_is, nothing_is}
@@ -28,10 +27,10 @@ returns-in_default-neighbour_at-2 c =
 
 pub answer-requires : goal.answer-requires
 answer-requires c = (
-    (color_is _ _ _ c.neighbour_at.ensures _ c.in-Color.is).2,
-    (color_is _ _ _ c.neighbour_at-2.ensures _ c.in-Color-neighbour_at.is).2,
-    (color_is _ _ _ c.neighbour_at-3.ensures _ c.in-Color-neighbour_at-2.is).2,
-    c.requires,
+  (color_is _ _ _ c.neighbour_at.ensures _ c.in-Color.is).2,
+  (color_is _ _ _ c.neighbour_at-2.ensures _ c.in-Color-neighbour_at.is).2,
+  (color_is _ _ _ c.neighbour_at-3.ensures _ c.in-Color-neighbour_at-2.is).2,
+  c.requires,
 )
 
 pub returns : goal.returns
