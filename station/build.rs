@@ -12,8 +12,9 @@ fn main() {
     let folder = env::var(VARIABLE).unwrap_or_else(|_| DEFAULT_FOLDER.to_string());
     let Ok(archive) = Path::new(&folder).join(ARCHIVE).canonicalize() else {
         println!(
-            "cargo::error={ARCHIVE} not found in folder {folder}: run `rt staticlib station` at \
-             the repository's top, or set {VARIABLE} to the folder that holds it"
+            "cargo::error={ARCHIVE} not found in folder {folder}: run `./sheet --help` at the \
+             repository's top, or `rt lib` in crates/station and set {VARIABLE} to the folder \
+             that holds it"
         );
         process::exit(1);
     };

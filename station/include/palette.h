@@ -1,7 +1,8 @@
 /*
  * Palette blocks for stations: the functions of libstation.a.
  *
- * The archive is written by `rt staticlib station` at the repository's top, to target/staticlib.
+ * The archive is written by `rt lib` in crates/station, to crates/station/out. `./sheet` at the
+ * repository's top copies it to target/staticlib.
  * Link it with the C library only:  cc station.c -Iinclude target/staticlib/libstation.a
  * Where palette_search_default_env or palette_strip_default_env is used, add -lm.
  *

@@ -38,6 +38,10 @@ filled f l from k v room so_far here i h g = go (eqb i k) refl
     go true e = rw (eqb-true i k e) (get_or-set_same l k v 0 room ∙ here)
     go false e = let other : i ≡ k → ⊥ = eqb-false i k e in get_or-set_other l k i v 0 other ∙ so_far i h (omega arith)
 
+-- the word of a code
+abbrev pub code_word : ℕ → ℕ → ℕ
+code_word n c = word 5 ((n - 2) * 5 + c / 8) (c % 8)
+
 -- cell (0,0), and each other by rank
 pub corner : (y x : ℕ) → eqb y 0 && eqb x 0 ≡ eqb (y + x) 0
 corner zero zero = refl

@@ -1,5 +1,5 @@
 -- Document 01, 'Colours': the size symbol, the cache bits, the untaken colours as literals.
-use Rattle.std.specs.Prelude.{ℕ, ◌+◌, ◌-◌, cond, List, [], ◌∷◌, ◌++◌, eqb, length}
+use Rattle.std.specs.Prelude.{ℕ, ◌-◌, cond, List, [], ◌∷◌, ◌++◌, eqb, length}
 use Rattle.lists.specs.Counted.{elem, bit}
 use Rattle.literals.specs.Words.{word, bypass}
 use Rattle.literals.specs.Literals.{literal_words}

@@ -10,7 +10,7 @@ use Rattle.lists.specs.Counted.{elem, bit, ascending}
 use Rattle.lists.proofs.Counted.{bit_injective}
 use Rattle.lists.proofs.Ascending.{Above, Ascending, ascending_is}
 use Rattle.counts.specs.Counts.{ceil_log2}
-use Rattle.literals.specs.Literals.{largest_step, step_bits, step_words, more_words, literal_words}
+use Rattle.literals.specs.Literals.{largest_step, step_bits, cut_bits, step_words, more_words, literal_words}
 use Rattle.emit.specs.Colors.{remove, cache_words, untaken, color_words}
 use Rattle.emit.proofs.Remove.{ascending_remove, length_remove, restore}
 use Rattle.emit.proofs.Untaken.{ascending_untaken}
@@ -54,7 +54,7 @@ step_splits bd b b' c c' (u ∷ us) (v ∷ vs) p q g h l =
     cons λ e.
     let s : u - c - 1 ≡ v - c' - 1 = word_injective 1 b b' _ _ p e in
     let t : u ≡ v = omega arith in
-    weaken (λ k. cc) (step_splits bd _ _ u v us vs (cc) t g.1 h.1 (omega arith))
+    weaken (λ k. cc) (step_splits bd (cut_bits bd b u) (cut_bits bd b' v) u v us vs (cc) t g.1 h.1 (omega arith))
 
 least_bits_holds : (bd c : ℕ) (us : List ℕ) → bd - 3 ≤ step_bits bd c us
 unfolding step_bits

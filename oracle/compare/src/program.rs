@@ -5,7 +5,7 @@ use std::path::{Path, PathBuf};
 use std::process::{ChildStdin, Command, ExitStatus, Stdio};
 use std::thread;
 
-const FOLDER: &str = "../../target/bin";
+const CRATES: &str = "../../crates";
 
 /// What a run came to.
 pub struct Ran {
@@ -13,12 +13,13 @@ pub struct Ran {
     pub status: ExitStatus,
 }
 
-/// The program that the variable names, else the one that the check builds.
+/// The program that the variable names, else the one that `rt run` leaves in the crate.
 pub fn find(name: &str, variable: &str) -> Result<PathBuf, String> {
-    let folder = PathBuf::from(env!("CARGO_MANIFEST_DIR")).join(FOLDER);
-    let program = std::env::var(variable).map_or(folder.join(name), PathBuf::from);
+    let crates = PathBuf::from(env!("CARGO_MANIFEST_DIR")).join(CRATES);
+    let built = crates.join(name).join("out").join(name);
+    let program = std::env::var(variable).map_or(built, PathBuf::from);
     program.canonicalize().map_err(|e| {
-        format!("the program {name} is not there ({e}): run `rt check {name}`, or set {variable}")
+        format!("no program {name} ({e}): `rt run` in crates/{name} builds it, or set {variable}")
     })
 }
 

@@ -88,7 +88,7 @@ pub fn cases(count: usize) -> usize {
 }
 
 /// What the listing program prints for a text. LIST_PROGRAM names the program, else it is looked
-/// for beside this package; none where it is not built.
+/// for where `rt run` leaves it; none where it is not built.
 pub fn listing_program(text: &[u8]) -> Option<Vec<u8>> {
     program("LIST_PROGRAM", "list", text)
 }
@@ -99,10 +99,11 @@ pub fn report_program(text: &[u8]) -> Option<Vec<u8>> {
 }
 
 fn program(variable: &str, name: &str, text: &[u8]) -> Option<Vec<u8>> {
-    let folder = Path::new(env!("CARGO_MANIFEST_DIR")).join("../target/bin");
-    let program = env::var_os(variable).map_or(folder.join(name), PathBuf::from);
+    let crates = Path::new(env!("CARGO_MANIFEST_DIR")).join("../crates");
+    let built = crates.join(name).join("out").join(name);
+    let program = env::var_os(variable).map_or(built, PathBuf::from);
     if !program.exists() {
-        eprintln!("skipped: no program {name} (set {variable}, or run `rt check {name}`)");
+        eprintln!("skipped: no program {name} (set {variable}, or `rt run` in crates/{name})");
         return None;
     }
     let mut child = Command::new(program)

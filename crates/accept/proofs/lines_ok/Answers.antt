@@ -1,14 +1,8 @@
-use mathlib.Core.Bool.{true}
-use mathlib.Core.Path.{◌≡◌, sym, ◌∙◌}
-use Prim.Native.Nat.{ℕ, ◌-◌, ◌≤◌, ◌<◌}
+use mathlib.Core.Path.{sym, ◌∙◌}
 use native.Mathlib.Omega.{arith}
 use borrow.Author.Count.{below_more}
 use borrow.Author.Rules.{rules}
-use borrow.Author.Tests.{not-true, not-false}
-use lib.ListN.{length, get_or}
 use Rattle.lists.proofs.Counted.{all_below_of, all_below_not}
-use Rattle.context.specs.Map.{length_of, line_cell}
-use Rattle.accept.specs.Accepted.{line_ok}
 use Rattle.accept.proofs.lines_ok.Goals as goal
 
 pub loop-l-init : goal.loop-l-init

@@ -1,12 +1,7 @@
 use mathlib.Core.Bool.{true}
-use mathlib.Core.Path.{◌≡◌, sym, ◌∙◌}
+use mathlib.Core.Path.{◌≡◌}
 use Prim.Native.Nat.{ℕ, ◌-◌, ◌≤◌, ◌<◌}
-use native.Mathlib.Omega.{arith}
-use borrow.Author.Count.{below_more}
-use borrow.Author.Rules.{rules}
-use borrow.Author.Tests.{not-true, not-false}
 use lib.ListN.{length, get_or}
-use Rattle.lists.proofs.Counted.{all_below_of, all_below_not}
 use Rattle.context.specs.Map.{length_of, line_cell}
 use Rattle.accept.specs.Accepted.{line_ok}
 use Rattle.accept.proofs.lines_ok.Given as goal

@@ -1,5 +1,4 @@
 use mathlib.Core.Path.{refl}
-use borrow.Author.Rules.{rules}
 use Rattle.accept.specs.Accepted.{orient_ok}
 use Rattle.accept.proofs.orient_ok.Goals as goal
 

@@ -1,6 +1,5 @@
 use mathlib.Core.Bool.{true, false}
 use mathlib.Core.Path.{◌≡◌, refl, sym, ◌∙◌}
-use borrow.Author.Rules.{rules}
 use Rattle.lists.specs.Counted.{within}
 use Rattle.accept.specs.Accepted.{sides_ok}
 use Rattle.accept.proofs.sides_ok.Goals as goal

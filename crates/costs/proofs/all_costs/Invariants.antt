@@ -1,11 +1,6 @@
-use mathlib.Core.Path.{refl}
 use Prim.Native.Nat.{◌-◌}
-use native.Mathlib.Omega.{arith}
-use borrow.Author.Rules.{rules}
-use Rattle.costs.specs.Thresholds.{threshold_table}
 use Rattle.costs.specs.Costs.{table_of}
-use Rattle.costs.proofs.Rows.{lies, costs_inside}
-use Rattle.costs.proofs.Begun.{Begun, begins, turn, ends}
+use Rattle.costs.proofs.Begun.{Begun}
 use Rattle.costs.proofs.all_costs.Given as goal
 
 abbrev pub invariant-loop-r : goal.invariant-loop-r

@@ -2,7 +2,6 @@ use mathlib.Core.Path.{ap, ◌∙◌}
 use borrow.Author.Tests.{lt-leb, le-leb}
 use Rattle.costs.specs.Cost.{cost_of, sixteenths}
 use Rattle.costs.specs.Costs.{cost_in}
-use borrow.Author.Rules.{rules}
 use Rattle.costs.proofs.cost_in.Goals as goal
 
 pub returns-then-row-s : goal.returns-then-row-s

@@ -1,6 +1,5 @@
 use mathlib.Core.Path.{refl}
 use Rattle.costs.specs.Thresholds.{threshold_table}
-use borrow.Author.Rules.{rules}
 use Rattle.costs.proofs.cost_of.Goals as goal
 
 pub last_met-requires : goal.last_met-requires

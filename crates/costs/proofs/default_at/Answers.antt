@@ -5,7 +5,6 @@ use lib.ListN.{length, get_or}
 use borrow.Author.Tests.{lt-ltb, le-ltb}
 use Rattle.tables.proofs.Flat as flat
 use Rattle.costs.proofs.Defaults.{by_place_is}
-use borrow.Author.Rules.{rules}
 use Rattle.costs.proofs.default_at.Goals as goal
 
 pub returns-then-k-lt1 : goal.returns-then-k-lt1

@@ -1,10 +1,8 @@
 use mathlib.Core.Path.{sym}
-use Prim.Native.Nat.{◌-◌}
 use native.Mathlib.Omega.{arith}
-use Rattle.lists.proofs.Each.{Filled, starts, more, whole}
+use Rattle.lists.proofs.Each.{starts, more, whole}
 use Rattle.costs.specs.Rows.{defaults}
 use Rattle.costs.proofs.Defaults.{count}
-use borrow.Author.Rules.{rules}
 use Rattle.costs.proofs.default_table.Goals as goal
 
 pub color_rows-colors-requires : goal.color_rows-colors-requires

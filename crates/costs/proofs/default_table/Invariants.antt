@@ -1,10 +1,6 @@
-use mathlib.Core.Path.{sym}
 use Prim.Native.Nat.{◌-◌}
-use native.Mathlib.Omega.{arith}
-use Rattle.lists.proofs.Each.{Filled, starts, more, whole}
+use Rattle.lists.proofs.Each.{Filled}
 use Rattle.costs.specs.Rows.{defaults}
-use Rattle.costs.proofs.Defaults.{count}
-use borrow.Author.Rules.{rules}
 use Rattle.costs.proofs.default_table.Given as goal
 
 abbrev pub invariant-loop-k : goal.invariant-loop-k

@@ -1,12 +1,12 @@
 use mathlib.Core.Path.{◌≡◌, ap, ◌∙◌}
-use mathlib.Core.Logic.{inl, inr, ⊎_elim}
-use Prim.Native.Nat.{◌-◌, ◌≤◌}
+use mathlib.Core.Logic.{inl, inr}
 use native.Mathlib.Omega.{arith}
 use lib.ListN.{length}
 use Rattle.costs.specs.Cost.{meets, last, cost_of}
 use Rattle.costs.proofs.Thresholds.{count}
 use Rattle.costs.proofs.Counting.{begins, turn}
 use Rattle.costs.proofs.last_met.Goals as goal
+use Rattle.costs.proofs.last_met.Goals.{then-p-thresholds, else-p-thresholds}
 
 pub loop-i-init : goal.loop-i-init
 loop-i-init c = (omega arith, omega arith, omega arith, begins _)
@@ -32,9 +32,15 @@ loop-i-preserved c =
     let h = c.loop-i-test.true in (
       omega arith,
       omega arith,
-      ⊎_elim (λ w. omega (arith, w.1, l.invariant.2)) (λ w. omega (arith, w.1, l.invariant.2)) c.if-p-thresholds.branch,
+      elim c.if-p-thresholds.branch [
+        | then-p-thresholds w ↦ omega (arith, w.c-is, l.invariant.2)
+        | else-p-thresholds w ↦ omega (arith, w.c-is, l.invariant.2)
+      ],
       turn _ c.requires _ l.c l.i c.if-p-thresholds.c l.invariant.0 h l.invariant.3
-          (⊎_elim (λ w. inl (w.0.taken, w.1)) (λ w. inr (w.0.left, w.1)) c.if-p-thresholds.branch),
+          (elim c.if-p-thresholds.branch [
+            | then-p-thresholds w ↦ inl (w.if-p-thresholds.true, w.c-is)
+            | else-p-thresholds w ↦ inr (w.if-p-thresholds.false, w.c-is)
+          ]),
     )
 
 pub returns : goal.returns

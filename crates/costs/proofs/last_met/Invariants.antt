@@ -1,11 +1,6 @@
-use mathlib.Core.Path.{◌≡◌, ap, ◌∙◌}
-use mathlib.Core.Logic.{inl, inr, ⊎_elim}
+use mathlib.Core.Path.{◌≡◌}
 use Prim.Native.Nat.{◌-◌, ◌≤◌}
-use native.Mathlib.Omega.{arith}
-use lib.ListN.{length}
-use Rattle.costs.specs.Cost.{meets, last, cost_of}
-use Rattle.costs.proofs.Thresholds.{count}
-use Rattle.costs.proofs.Counting.{begins, turn}
+use Rattle.costs.specs.Cost.{meets, last}
 use Rattle.costs.proofs.last_met.Given as goal
 
 abbrev pub invariant-loop-i : goal.invariant-loop-i

@@ -2,7 +2,6 @@ use mathlib.Core.Path.{sym, ap, ◌∙◌}
 use lib.ListN.{length}
 use Rattle.costs.proofs.Defaults.{count}
 use Rattle.costs.proofs.Answered.{length_known, accepted, refused}
-use borrow.Author.Rules.{rules}
 use Rattle.costs.proofs.make_costs.Goals as goal
 
 pub all_costs-costs-requires : goal.all_costs-costs-requires

@@ -1,5 +1,4 @@
 use borrow.Author.Tests.{eq-eqb, ne_eqb}
-use borrow.Author.Rules.{rules}
 use Rattle.costs.proofs.number_before.Goals as goal
 
 pub returns-then-s-eq0 : goal.returns-then-s-eq0

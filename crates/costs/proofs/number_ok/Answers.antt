@@ -1,5 +1,4 @@
 use borrow.Author.Tests.{lt-ltb, le-ltb}
-use borrow.Author.Rules.{rules}
 use Rattle.costs.proofs.number_ok.Goals as goal
 
 pub returns-then-s-used : goal.returns-then-s-used

@@ -1,11 +1,9 @@
-use mathlib.Core.Path.{◌≡◌, refl, sym, ◌∙◌}
-use Prim.Native.Nat.{◌-◌}
+use mathlib.Core.Path.{refl, sym, ◌∙◌}
 use native.Mathlib.Omega.{arith}
-use lib.ListN.{length, length-set}
+use lib.ListN.{length-set}
 use lib.Ieee.{nan}
-use Rattle.lists.specs.Counted.{each}
 use Rattle.lists.proofs.Counted.{length_up_to}
-use Rattle.lists.proofs.Each.{each_at, Filled, starts, more, whole}
+use Rattle.lists.proofs.Each.{each_at, starts, more, whole}
 use Rattle.costs.specs.Costs.{cost_in}
 use Rattle.costs.proofs.put_costs.Goals as goal
 

@@ -1,11 +1,9 @@
-use mathlib.Core.Path.{◌≡◌, refl, sym, ◌∙◌}
+use mathlib.Core.Path.{◌≡◌}
 use Prim.Native.Nat.{◌-◌}
-use native.Mathlib.Omega.{arith}
-use lib.ListN.{length, length-set}
+use lib.ListN.{length}
 use lib.Ieee.{nan}
 use Rattle.lists.specs.Counted.{each}
-use Rattle.lists.proofs.Counted.{length_up_to}
-use Rattle.lists.proofs.Each.{each_at, Filled, starts, more, whole}
+use Rattle.lists.proofs.Each.{Filled}
 use Rattle.costs.specs.Costs.{cost_in}
 use Rattle.costs.proofs.put_costs.Given as goal
 

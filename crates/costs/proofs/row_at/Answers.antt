@@ -1,6 +1,5 @@
 use borrow.Author.Tests.{lt-ltb, le-ltb}
 use Rattle.costs.specs.Rows.{row_at}
-use borrow.Author.Rules.{rules}
 use Rattle.costs.proofs.row_at.Goals as goal
 
 pub returns-then-r-lt1 : goal.returns-then-r-lt1

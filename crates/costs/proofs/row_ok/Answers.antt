@@ -1,10 +1,8 @@
+use mathlib.Core.Path.{◌∙◌}
 use mathlib.Core.Path.{◌≡◌, sym}
 use mathlib.Core.Bool.{true}
-use Prim.Native.Nat.{ℕ, ◌-◌, ◌<◌}
 use native.Mathlib.Omega.{arith}
-use lib.ListN.{length}
 use borrow.Author.Count.{below_more}
-use Rattle.lists.proofs.Choice.{fails, holds}
 use Rattle.lists.proofs.Counted.{all_below_not, all_below_of}
 use Rattle.costs.specs.Rows.{number_ok, row_ok}
 use Rattle.costs.proofs.row_ok.Goals as goal
@@ -20,7 +18,7 @@ unfolding row_ok
 returns-then-not-number_ok c =
     let a = c.args in
     sym (all_below_not (number_ok a.used a.row.now) _ c.loop-s.s c.loop-s-test.true
-    (fails _ _ c.number_ok.ensures c.if-not-number_ok.true))
+    (sym c.number_ok.ensures ∙ c.if-not-number_ok.true))
 
 pub overflow_add-s : goal.overflow_add-s
 overflow_add-s c = omega arith
@@ -32,7 +30,7 @@ pub loop-s-preserved : goal.loop-s-preserved
 loop-s-preserved c =
     let a = c.args in
     below_more (λ i. number_ok a.used a.row.now i ≡ true) c.loop-s.s c.loop-s.invariant
-    (holds _ _ c.number_ok.ensures c.if-not-number_ok.false)
+    (sym c.number_ok.ensures ∙ c.if-not-number_ok.false)
 
 pub returns : goal.returns
 unfolding row_ok

@@ -1,12 +1,8 @@
-use mathlib.Core.Path.{◌≡◌, sym}
+use mathlib.Core.Path.{◌≡◌}
 use mathlib.Core.Bool.{true}
 use Prim.Native.Nat.{ℕ, ◌-◌, ◌<◌}
-use native.Mathlib.Omega.{arith}
 use lib.ListN.{length}
-use borrow.Author.Count.{below_more}
-use Rattle.lists.proofs.Choice.{fails, holds}
-use Rattle.lists.proofs.Counted.{all_below_not, all_below_of}
-use Rattle.costs.specs.Rows.{number_ok, row_ok}
+use Rattle.costs.specs.Rows.{number_ok}
 use Rattle.costs.proofs.row_ok.Given as goal
 
 abbrev pub invariant-loop-s : goal.invariant-loop-s

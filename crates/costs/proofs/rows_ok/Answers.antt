@@ -1,11 +1,10 @@
 use mathlib.Core.Path.{◌≡◌, sym, ap, ◌∙◌}
 use mathlib.Core.Bool.{Bool, true}
 use mathlib.Core.List.{List}
-use Prim.Native.Nat.{ℕ, ◌+◌, ◌-◌, ◌≤◌, ◌<◌}
+use Prim.Native.Nat.{ℕ, ◌+◌, ◌-◌}
 use native.Mathlib.Omega.{arith}
 use borrow.Author.Count.{below_more}
 use Rattle.lists.specs.Counted.{part}
-use Rattle.lists.proofs.Choice.{fails, holds}
 use Rattle.lists.proofs.Counted.{all_below_not, all_below_of}
 use Rattle.costs.specs.declared.Row.{Row}
 use Rattle.costs.specs.Rows.{row_at, row_ok, table_row_ok, rows_ok}
@@ -53,7 +52,7 @@ unfolding rows_ok
 returns-then-not-row_ok c =
     let l = c.loop-r in
     sym (all_below_not (table_row_ok _) 41 l.r c.loop-r-test.true
-    (fails _ _ (row_by _ l.r _ _ c.row_at-row.ensures c.row_ok.ensures) c.if-not-row_ok.true))
+    (sym (row_by _ l.r _ _ c.row_at-row.ensures c.row_ok.ensures) ∙ c.if-not-row_ok.true))
 
 pub overflow_add-r : goal.overflow_add-r
 overflow_add-r c = omega arith
@@ -66,7 +65,7 @@ loop-r-preserved c =
     let l = c.loop-r in (
       omega arith,
       below_more (λ i. table_row_ok _ i ≡ true) l.r l.invariant.1
-          (holds _ _ (row_by _ l.r _ _ c.row_at-row.ensures c.row_ok.ensures) c.if-not-row_ok.false),
+          (sym (row_by _ l.r _ _ c.row_at-row.ensures c.row_ok.ensures) ∙ c.if-not-row_ok.false),
     )
 
 pub returns : goal.returns

@@ -1,15 +1,7 @@
-use mathlib.Core.Path.{◌≡◌, sym, ap, ◌∙◌}
-use mathlib.Core.Bool.{Bool, true}
-use mathlib.Core.List.{List}
-use Prim.Native.Nat.{ℕ, ◌+◌, ◌-◌, ◌≤◌, ◌<◌}
-use native.Mathlib.Omega.{arith}
-use borrow.Author.Count.{below_more}
-use Rattle.lists.specs.Counted.{part}
-use Rattle.lists.proofs.Choice.{fails, holds}
-use Rattle.lists.proofs.Counted.{all_below_not, all_below_of}
-use Rattle.costs.specs.declared.Row.{Row}
-use Rattle.costs.specs.Rows.{row_at, row_ok, table_row_ok, rows_ok}
-use Rattle.costs.proofs.Rows.{lies}
+use mathlib.Core.Path.{◌≡◌}
+use mathlib.Core.Bool.{true}
+use Prim.Native.Nat.{ℕ, ◌-◌, ◌≤◌, ◌<◌}
+use Rattle.costs.specs.Rows.{table_row_ok}
 use Rattle.costs.proofs.rows_ok.Given as goal
 
 abbrev pub invariant-loop-r : goal.invariant-loop-r

@@ -1,7 +1,6 @@
 use mathlib.Core.Path.{refl}
 use lib.Ieee.{div, of_int, of_bits}
 use Rattle.costs.specs.Cost.{sixteenths}
-use borrow.Author.Rules.{rules}
 use Rattle.costs.proofs.sixteenth.Goals as goal
 
 pub returns : goal.returns

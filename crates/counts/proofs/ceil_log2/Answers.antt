@@ -4,7 +4,6 @@ use native.Mathlib.Omega.{arith}
 use native.Mathlib.Nat.{le_antisymm}
 use Prim.Native.Nat.{zero-le}
 use lib.Count.{leading_le}
-use borrow.Author.Rules.{rules}
 use Rattle.counts.specs.Counts.{ceil_log2}
 use Rattle.counts.proofs.Log.{ceil_least, digits}
 use Rattle.counts.proofs.ceil_log2.Goals as goal

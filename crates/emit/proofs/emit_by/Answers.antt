@@ -4,7 +4,6 @@ use mathlib.Core.List.{List, ◌++◌}
 use mathlib.Core.Bool.{Bool}
 use native.Mathlib.Omega.{arith}
 use lib.ListN.{length, length-append}
-use borrow.Author.Rules.{rules}
 use Rattle.lists.specs.Counted.{up_to}
 use Rattle.lists.proofs.Written.{written_append}
 use Rattle.context.specs.Map.{lines_of, length_of}

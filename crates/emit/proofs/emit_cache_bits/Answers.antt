@@ -1,37 +1,23 @@
-use Prim.Native.Nat.{ℕ, ◌≤◌, ◌<◌, ◌+◌, ◌-◌}
+use Prim.Native.Nat.{ℕ, ◌≤◌, ◌<◌, ◌+◌}
 use mathlib.Core.Path.{◌≡◌, refl, sym, ap, ◌∙◌}
-use mathlib.Core.Bool.{true}
 use mathlib.Core.List.{List, [], ◌∷◌}
 use native.Mathlib.Numerals.{add-one}
 use native.Mathlib.Omega.{arith}
 use lib.Dec.{ltb}
-use lib.ListN.{length, take, drop, get_or, drop_of_length-le}
+use lib.ListN.{length, drop, get_or, drop_of_length-le}
 use lib.Seq.{drop-cons, length-take-le}
 use borrow.Author.Rules.{rules}
 use borrow.Kind.Array.{good_length, e_int}
 use mir.Syntax.{w16}
-use Rattle.lists.specs.Counted.{elem, bit, ascending}
+use Rattle.lists.specs.Counted.{elem, bit}
 use Rattle.lists.specs.Written.{written}
 use Rattle.literals.specs.Words.{bypass}
 use Rattle.emit.specs.Colors.{remove, cache_words, untaken}
 use Rattle.emit.specs.declared.Left.{Left}
 use Rattle.emit.proofs.Remove.{ascends_remove, length_remove, elem_shorter}
 use Rattle.emit.proofs.Untaken.{cache_step, cache_none, untaken_none}
+use Rattle.emit.proofs.emit_cache_bits.Invariants.{Inv, colors_of}
 use Rattle.emit.proofs.emit_cache_bits.Goals as goal
-
-abbrev colors_of : Left → List ℕ
-colors_of left = take left.count left.colors
-
--- what is left to send, written now, gives the whole
-record Inv (cache out₀ : List ℕ) (at : ℕ) (left₀ : Left) (out : List ℕ) (left : Left) (pos i : ℕ) : Type 0 where
-  seen : i ≤ length cache
-  few : left.count ≤ 8
-  count : left.count ≡ length (colors_of left)
-  rising : ascending (colors_of left) ≡ true
-  size : length out ≡ length out₀
-  place : pos + length (cache_words (drop i cache) (colors_of left)) ≡ at + length (cache_words cache (colors_of left₀))
-  wrote : written out pos (cache_words (drop i cache) (colors_of left)) ≡ written out₀ at (cache_words cache (colors_of left₀))
-  kept : untaken (drop i cache) (colors_of left) ≡ untaken cache (colors_of left₀)
 
 module _ (cache out₀ : List ℕ) (at : ℕ) (left₀ : Left) (out : List ℕ) (left : Left) (pos i : ℕ) (v : Inv cache out₀ at left₀ out left pos i) where
   abbrev rest : List ℕ
@@ -101,21 +87,14 @@ loop-i-init c =
       kept = refl;
     }
 
--- a colour is left
-some_left : (c : goal.After-before-1) → 0 < length (colors_of c.loop-i.left)
-some_left c = omega (arith, c.loop-i.invariant.count, c.if-count-eq0.false)
-
 -- all entries are sent
-past : (c : goal.After-loop-i) → drop c.loop-i.i c.args.cache.now ≡ []
-past c = drop_of_length-le c.args.cache.now {i = c.loop-i.i} (omega arith)
-
-none : (c : goal.After-loop-i) → cache_words (drop c.loop-i.i c.args.cache.now) (colors_of c.loop-i.left) ≡ []
+none : (cache cs : List ℕ) (i : ℕ) → length cache ≤ i → cache_words (drop i cache) cs ≡ []
 unfolding cache_words
-none c = rw (past c) refl
+none cache cs i h = rw (drop_of_length-le cache {i = i} h) refl
 
-same : (c : goal.After-loop-i) → untaken (drop c.loop-i.i c.args.cache.now) (colors_of c.loop-i.left) ≡ colors_of c.loop-i.left
+same : (cache cs : List ℕ) (i : ℕ) → length cache ≤ i → untaken (drop i cache) cs ≡ cs
 unfolding untaken
-same c = rw (past c) refl
+same cache cs i h = rw (drop_of_length-le cache {i = i} h) refl
 
 pub returns-then-count-eq0 : goal.returns-then-count-eq0
 returns-then-count-eq0 c =
@@ -129,20 +108,22 @@ leave_out-left-requires c = let v = c.loop-i.invariant in (v.few, v.rising)
 
 pub put_bypass-pos-requires : goal.put_bypass-pos-requires
 put_bypass-pos-requires c =
+    let some : 0 < length (colors_of c.loop-i.left) = omega (arith, c.loop-i.invariant.count, c.if-count-eq0.false) in
     let l = c.loop-i in
-    let h : l.pos < length l.out = fits _ _ _ _ _ _ _ l.i l.invariant c.loop-i-test.true (some_left c.before.before.before.before.before) c.requires.colors_in_bounds in
+    let h : l.pos < length l.out = fits _ _ _ _ _ _ _ l.i l.invariant c.loop-i-test.true some c.requires.colors_in_bounds in
     (omega arith, omega (arith, c.bit_of.ensures.1), h)
 
 pub loop-i-preserved : goal.loop-i-preserved
 loop-i-preserved c =
+    let some : 0 < length (colors_of c.loop-i.left) = omega (arith, c.loop-i.invariant.count, c.if-count-eq0.false) in
     let l = c.loop-i in
     let p = c.put_bypass-pos in
     let k = c.leave_out-left in
-    turn _ _ _ _ _ _ _ l.i l.invariant c.loop-i-test.true (some_left c.before.before.before.before.before.before.before.before) k.result p.new.out p.result _
+    turn _ _ _ _ _ _ _ l.i l.invariant c.loop-i-test.true some k.result p.new.out p.result _
     k.ensures.count_value k.ensures.colors_value c.bit_of.ensures.0 p.ensures.0 p.ensures.1 p.auto.out
 
 pub returns : goal.returns
 returns c =
     let l = c.loop-i in
-    let e = ended _ _ _ _ _ _ _ l.i l.invariant (none c) (same c) in
+    let e = ended _ _ _ _ _ _ _ l.i l.invariant (none _ _ l.i (omega arith)) (same _ _ l.i (omega arith)) in
     record { count_value = e.count; colors_value = e.kept; next_value = e.place; out_after = e.wrote }

@@ -1,23 +1,27 @@
-use Prim.Native.Nat.{ℕ, ◌≤◌, ◌<◌, ◌+◌, ◌-◌}
-use mathlib.Core.Path.{◌≡◌, refl, sym, ap, ◌∙◌}
+use Prim.Native.Nat.{ℕ, ◌≤◌, ◌+◌, ◌-◌}
+use mathlib.Core.Path.{◌≡◌}
 use mathlib.Core.Bool.{true}
-use mathlib.Core.List.{List, [], ◌∷◌}
-use native.Mathlib.Numerals.{add-one}
-use native.Mathlib.Omega.{arith}
-use lib.Dec.{ltb}
-use lib.ListN.{length, take, drop, get_or, drop_of_length-le}
-use lib.Seq.{drop-cons, length-take-le}
-use borrow.Author.Rules.{rules}
-use borrow.Kind.Array.{good_length, e_int}
-use mir.Syntax.{w16}
-use Rattle.lists.specs.Counted.{elem, bit, ascending}
+use mathlib.Core.List.{List}
+use lib.ListN.{length, take, drop}
+use Rattle.lists.specs.Counted.{ascending}
 use Rattle.lists.specs.Written.{written}
-use Rattle.literals.specs.Words.{bypass}
-use Rattle.emit.specs.Colors.{remove, cache_words, untaken}
+use Rattle.emit.specs.Colors.{cache_words, untaken}
 use Rattle.emit.specs.declared.Left.{Left}
-use Rattle.emit.proofs.Remove.{ascends_remove, length_remove, elem_shorter}
-use Rattle.emit.proofs.Untaken.{cache_step, cache_none, untaken_none}
 use Rattle.emit.proofs.emit_cache_bits.Given as goal
+
+abbrev pub colors_of : Left → List ℕ
+colors_of left = take left.count left.colors
+
+-- what is left to send, written now, gives the whole
+pub record Inv (cache out₀ : List ℕ) (at : ℕ) (left₀ : Left) (out : List ℕ) (left : Left) (pos i : ℕ) : Type 0 where
+  pub seen : i ≤ length cache
+  pub few : left.count ≤ 8
+  pub count : left.count ≡ length (colors_of left)
+  pub rising : ascending (colors_of left) ≡ true
+  pub size : length out ≡ length out₀
+  pub place : pos + length (cache_words (drop i cache) (colors_of left)) ≡ at + length (cache_words cache (colors_of left₀))
+  pub wrote : written out pos (cache_words (drop i cache) (colors_of left)) ≡ written out₀ at (cache_words cache (colors_of left₀))
+  pub kept : untaken (drop i cache) (colors_of left) ≡ untaken cache (colors_of left₀)
 
 abbrev pub invariant-loop-i : goal.invariant-loop-i
 invariant-loop-i l = Inv l.cache l.initial.out l.at l.initial.left l.out l.left l.pos l.i

@@ -1,12 +1,9 @@
-use Prim.Native.Nat.{◌≤◌, ◌<◌, ◌+◌, ◌-◌}
-use mathlib.Core.Path.{◌≡◌, refl, ◌∙◌}
+use Prim.Native.Nat.{◌≤◌, ◌+◌, ◌-◌}
+use mathlib.Core.Path.{◌≡◌}
 use mathlib.Core.List.{[], ◌∷◌}
-use native.Mathlib.Omega.{arith}
 use lib.ListN.{length}
-use borrow.Author.Rules.{rules}
 use Rattle.lists.specs.Counted.{up_to}
 use Rattle.lists.specs.Written.{written}
-use Rattle.lists.proofs.Written.{written_next}
 use Rattle.emit.specs.Map.{line_word}
 use Rattle.emit.proofs.emit_cells.Given as goal
 

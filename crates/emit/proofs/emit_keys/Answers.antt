@@ -1,9 +1,7 @@
-use Prim.Native.Nat.{◌≤◌, ◌+◌, ◌-◌}
+use Prim.Native.Nat.{◌+◌}
 use mathlib.Core.Path.{◌≡◌, refl, ◌∙◌}
 use native.Mathlib.Omega.{arith}
-use lib.ListN.{length, length-set}
-use borrow.Author.Rules.{rules}
-use Rattle.emit.specs.Keys.{word_by, Extends}
+use lib.ListN.{length-set}
 use Rattle.emit.proofs.Keys.{extends_next}
 use Rattle.emit.proofs.emit_keys.Goals as goal
 

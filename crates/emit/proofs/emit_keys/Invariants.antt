@@ -1,10 +1,7 @@
-use Prim.Native.Nat.{◌≤◌, ◌+◌, ◌-◌}
-use mathlib.Core.Path.{◌≡◌, refl, ◌∙◌}
-use native.Mathlib.Omega.{arith}
-use lib.ListN.{length, length-set}
-use borrow.Author.Rules.{rules}
+use Prim.Native.Nat.{◌≤◌, ◌-◌}
+use mathlib.Core.Path.{◌≡◌}
+use lib.ListN.{length}
 use Rattle.emit.specs.Keys.{word_by, Extends}
-use Rattle.emit.proofs.Keys.{extends_next}
 use Rattle.emit.proofs.emit_keys.Given as goal
 
 -- The loop's invariant: the contract, up to the cell at hand. Assumes nothing.

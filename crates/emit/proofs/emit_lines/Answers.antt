@@ -1,4 +1,4 @@
-use Prim.Native.Nat.{ℕ, ◌≤◌, ◌<◌, ◌+◌, ◌-◌}
+use Prim.Native.Nat.{ℕ, ◌≤◌, ◌<◌, ◌+◌}
 use mathlib.Core.Path.{◌≡◌, refl, sym, ◌∙◌}
 use mathlib.Core.Bool.{Bool}
 use mathlib.Core.List.{List, [], ◌∷◌}
@@ -12,16 +12,8 @@ use Rattle.lists.proofs.Written.{written_more}
 use Rattle.literals.specs.Words.{word}
 use Rattle.emit.specs.Map.{line_word, sent_cells, row_context, line_words}
 use Rattle.emit.proofs.Lines.{narrower, sent_few, line_length, next_context}
+use Rattle.emit.proofs.emit_lines.Invariants.{Inv}
 use Rattle.emit.proofs.emit_lines.Goals as goal
-
--- the first l lines are written
-record Inv (f : ℕ → List ℕ) (flags : List ℕ) (lines : ℕ) (out₀ : List ℕ) (at : ℕ) (out : List ℕ) (pos context l : ℕ) : Type 0 where
-  few : l ≤ lines
-  told : context ≡ row_context flags l
-  small : context < 256
-  size : length out ≡ length out₀
-  place : pos ≡ at + length (up_to f l)
-  wrote : out ≡ written out₀ at (up_to f l)
 
 module _ (n : ℕ) (t : Bool) (flags map : List ℕ) (w len lines : ℕ) (out₀ : List ℕ) (at : ℕ) (out : List ℕ) (pos context l : ℕ)
     (v : Inv (line_words n t flags map w len) flags lines out₀ at out pos context l) (more : l < lines) where

@@ -1,18 +1,20 @@
 use Prim.Native.Nat.{ℕ, ◌≤◌, ◌<◌, ◌+◌, ◌-◌}
-use mathlib.Core.Path.{◌≡◌, refl, sym, ◌∙◌}
-use mathlib.Core.Bool.{Bool}
-use mathlib.Core.List.{List, [], ◌∷◌}
-use native.Mathlib.Omega.{arith}
-use lib.ListN.{length, get_or}
-use borrow.Author.Rules.{rules}
+use mathlib.Core.Path.{◌≡◌}
+use mathlib.Core.List.{List}
+use lib.ListN.{length}
 use Rattle.lists.specs.Counted.{up_to}
 use Rattle.lists.specs.Written.{written}
-use Rattle.lists.proofs.Counted.{length_more, up_to_longer}
-use Rattle.lists.proofs.Written.{written_more}
-use Rattle.literals.specs.Words.{word}
-use Rattle.emit.specs.Map.{line_word, sent_cells, row_context, line_words}
-use Rattle.emit.proofs.Lines.{narrower, sent_few, line_length, next_context}
+use Rattle.emit.specs.Map.{row_context, line_words}
 use Rattle.emit.proofs.emit_lines.Given as goal
+
+-- the first l lines are written
+pub record Inv (f : ℕ → List ℕ) (flags : List ℕ) (lines : ℕ) (out₀ : List ℕ) (at : ℕ) (out : List ℕ) (pos context l : ℕ) : Type 0 where
+  pub few : l ≤ lines
+  pub told : context ≡ row_context flags l
+  pub small : context < 256
+  pub size : length out ≡ length out₀
+  pub place : pos ≡ at + length (up_to f l)
+  pub wrote : out ≡ written out₀ at (up_to f l)
 
 abbrev pub invariant-loop-l : goal.invariant-loop-l
 invariant-loop-l l =

@@ -1,7 +1,6 @@
 use Prim.Native.Nat.{◌≤◌}
 use native.Mathlib.Omega.{arith}
 use lib.ListN.{length}
-use borrow.Author.Rules.{rules}
 use Rattle.emit.proofs.emit_sent.Goals as goal
 
 pub emit_cells-requires : goal.emit_cells-requires

@@ -1,4 +1,3 @@
-use borrow.Author.Rules.{rules}
 use Rattle.emit.proofs.key_in.Goals as goal
 
 pub key_of-requires : goal.key_of-requires

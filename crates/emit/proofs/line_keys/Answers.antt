@@ -1,12 +1,11 @@
 use Prim.Native.Nat.{ℕ, ◌+◌, ◌*◌, ◌≤◌}
 use mathlib.Core.Path.{◌≡◌, ap, ◌∙◌}
-use mathlib.Core.Logic.{⊎_elim}
 use native.Mathlib.Nat.{add_comm, mul-one}
 use native.Mathlib.Omega.{arith}
-use borrow.Author.Rules.{rules}
 use Rattle.emit.specs.Keys.{key_of}
 use Rattle.emit.proofs.Keys.{columns_inner, rows_inner, below_eight}
 use Rattle.emit.proofs.line_keys.Goals as goal
+use Rattle.emit.proofs.line_keys.Goals.{then-l-eq1, else-l-eq1}
 
 pub fill_keys-requires : goal.fill_keys-requires
 fill_keys-requires c =
@@ -31,7 +30,10 @@ fill_keys-requires-2 c =
     let i = rw c.if-transposed.false at c.requires.0 in
     let from = c.if-l-eq1.from in
     let k : (from ≤ 1) × (a.l ≡ 1 → from ≡ 1) =
-    ⊎_elim (λ w. (omega (arith, w.1), λ e. w.1)) (λ w. (omega (arith, w.1), λ e. absurd (w.0.left e))) c.if-l-eq1.branch in
+    elim c.if-l-eq1.branch [
+      | then-l-eq1 w ↦ (omega (arith, w.from-is), λ e. w.from-is)
+      | else-l-eq1 w ↦ (omega (arith, w.from-is), λ e. absurd (w.if-l-eq1.false e))
+    ] in
     record { from_bound = (k.0, c.requires.2, below_eight i); inner = rows_inner a.map.now a.w a.n a.l a.count from i c.requires.1 k.1 }
 
 pub returns : goal.returns

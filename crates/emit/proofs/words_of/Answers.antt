@@ -1,14 +1,10 @@
-use Prim.Native.Nat.{ℕ, ◌-◌, ◌+◌, ◌*◌, ◌/◌, ◌%◌, ◌≤◌, ◌<◌}
-use mathlib.Core.Path.{◌≡◌, refl, ◌∙◌}
+use Prim.Native.Nat.{◌<◌}
+use mathlib.Core.Path.{refl, ◌∙◌}
 use native.Mathlib.Omega.{arith}
-use lib.ListN.{length, get_or, length-set}
+use lib.ListN.{length-set}
 use borrow.Author.Rules.{rules}
-use Rattle.literals.specs.Words.{word}
-use Rattle.emit.proofs.Keys.{filled}
+use Rattle.emit.proofs.Keys.{filled, code_word}
 use Rattle.emit.proofs.words_of.Goals as goal
-
-abbrev code_word : ℕ → ℕ → ℕ
-code_word n c = word 5 ((n - 2) * 5 + c / 8) (c % 8)
 
 pub loop-c-init : goal.loop-c-init
 loop-c-init c = (search rules, refl, λ i h g. absurd (omega arith))

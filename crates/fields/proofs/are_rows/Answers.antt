@@ -1,11 +1,9 @@
-use borrow.Author.Tests.{not-true, not-false}
 use native.Mathlib.Nat.{sub-zero}
 use native.Mathlib.Omega.{arith}
-use Prim.Native.Nat.{◌≤◌, ◌+◌, ◌-◌, ◌*◌}
 use borrow.Author.Rules.{rules}
 use Rattle.lists.proofs.Rest.{one_left, none_left}
 use Rattle.fields.specs.Fields.{are_rows}
-use mathlib.Core.Path.{◌≡◌, refl, sym, ◌∙◌}
+use mathlib.Core.Path.{refl, sym, ◌∙◌}
 use Rattle.fields.proofs.are_rows.Goals as goal
 
 pub loop-y-init : goal.loop-y-init

@@ -1,6 +1,6 @@
 use Rattle.lists.proofs.Rest.{one_left, none_left}
 use native.Mathlib.Omega.{arith}
-use Prim.Native.Nat.{◌≤◌, ◌+◌, ◌-◌}
+use Prim.Native.Nat.{◌+◌}
 use borrow.Author.Rules.{rules}
 use Rattle.fields.specs.Fields.{columns, field_at}
 use mathlib.Core.Path.{◌≡◌, refl, sym}

@@ -1,9 +1,6 @@
-use Rattle.lists.proofs.Rest.{one_left, none_left}
-use native.Mathlib.Omega.{arith}
 use Prim.Native.Nat.{◌≤◌, ◌+◌, ◌-◌}
-use borrow.Author.Rules.{rules}
 use Rattle.fields.specs.Fields.{columns, field_at}
-use mathlib.Core.Path.{◌≡◌, refl, sym}
+use mathlib.Core.Path.{◌≡◌}
 use Rattle.fields.proofs.field_at.Given as goal
 
 abbrev pub invariant-loop-i : goal.invariant-loop-i

@@ -2,7 +2,6 @@ use Rattle.fields.proofs.Laws.{digit_least}
 use Rattle.fields.specs.Fields.{column}
 use borrow.Author.Tests.{eq-eqb, ne_eqb}
 use mathlib.Core.Path.{sym, ◌∙◌}
-use borrow.Author.Rules.{rules}
 use Rattle.fields.proofs.first_column.Goals as goal
 
 pub returns-then-b-eq32 : goal.returns-then-b-eq32

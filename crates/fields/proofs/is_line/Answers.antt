@@ -1,11 +1,9 @@
-use borrow.Author.Tests.{not-true, not-false}
 use native.Mathlib.Nat.{sub-zero}
 use native.Mathlib.Omega.{arith}
-use Prim.Native.Nat.{◌≤◌, ◌+◌, ◌-◌, ◌*◌}
 use borrow.Author.Rules.{rules}
 use Rattle.lists.proofs.Rest.{one_left, none_left}
 use Rattle.fields.specs.Fields.{is_line}
-use mathlib.Core.Path.{◌≡◌, refl}
+use mathlib.Core.Path.{refl}
 use Rattle.fields.proofs.is_line.Goals as goal
 
 pub loop-i-init : goal.loop-i-init

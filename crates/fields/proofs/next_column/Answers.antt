@@ -2,7 +2,6 @@ use Rattle.fields.proofs.Laws.{digit_least}
 use Rattle.fields.specs.Fields.{column}
 use borrow.Author.Tests.{lt-ltb, le-ltb, eq-eqb, ne_eqb}
 use mathlib.Core.Path.{sym, ◌∙◌}
-use borrow.Author.Rules.{rules}
 use Rattle.fields.proofs.next_column.Goals as goal
 
 pub returns-then-v-eq0 : goal.returns-then-v-eq0

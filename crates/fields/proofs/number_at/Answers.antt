@@ -1,6 +1,5 @@
 use Rattle.fields.specs.Fields.{number_of}
 use mathlib.Core.Path.{ap, ◌∙◌}
-use borrow.Author.Rules.{rules}
 use Rattle.fields.proofs.number_at.Goals as goal
 
 pub returns : goal.returns

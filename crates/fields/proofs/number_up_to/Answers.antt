@@ -1,5 +1,4 @@
 use mathlib.Core.Path.{refl, sym}
-use borrow.Author.Rules.{rules}
 use Rattle.fields.proofs.number_up_to.Goals as goal
 
 pub returns-in-Number : goal.returns-in-Number

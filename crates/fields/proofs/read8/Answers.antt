@@ -1,8 +1,8 @@
 use Rattle.lists.specs.Written.{written}
-use lib.ListN.{length, length-set}
+use lib.ListN.{length-set}
 use native.Mathlib.Nat.{sub-zero}
 use native.Mathlib.Omega.{arith}
-use Prim.Native.Nat.{◌≤◌, ◌+◌, ◌-◌, ◌*◌}
+use Prim.Native.Nat.{◌+◌}
 use borrow.Author.Rules.{rules}
 use Rattle.lists.proofs.Rest.{one_left, none_left}
 use Rattle.fields.specs.Fields.{line_numbers, cut}

@@ -1,12 +1,8 @@
 use Rattle.lists.specs.Written.{written}
-use lib.ListN.{length, length-set}
-use native.Mathlib.Nat.{sub-zero}
-use native.Mathlib.Omega.{arith}
+use lib.ListN.{length}
 use Prim.Native.Nat.{◌≤◌, ◌+◌, ◌-◌, ◌*◌}
-use borrow.Author.Rules.{rules}
-use Rattle.lists.proofs.Rest.{one_left, none_left}
 use Rattle.fields.specs.Fields.{line_numbers, cut}
-use mathlib.Core.Path.{◌≡◌, refl, sym}
+use mathlib.Core.Path.{◌≡◌}
 use Rattle.fields.proofs.read8.Given as goal
 
 abbrev pub invariant-loop-i : goal.invariant-loop-i

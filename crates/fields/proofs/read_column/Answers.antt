@@ -1,6 +1,5 @@
 use Rattle.fields.specs.Fields.{column}
 use mathlib.Core.Path.{refl, sym, ◌∙◌}
-use borrow.Author.Rules.{rules}
 use Rattle.fields.proofs.read_column.Goals as goal
 
 pub returns-in-Blank : goal.returns-in-Blank

@@ -1,15 +1,8 @@
-use native.Mathlib.Numerals.{add-one}
-use Rattle.lists.proofs.Written.{written_append}
 use Rattle.lists.specs.Written.{written}
 use lib.ListN.{length}
-use native.Mathlib.Nat.{sub-zero, suc-mul, zero-mul}
-use native.Mathlib.Omega.{arith}
 use Prim.Native.Nat.{◌≤◌, ◌+◌, ◌-◌, ◌*◌}
-use borrow.Author.Rules.{rules}
-use Rattle.lists.proofs.Rest.{one_left, none_left}
-use Rattle.fields.proofs.Laws.{length_line, length_cut, cut_append, row_room}
-use Rattle.fields.specs.Fields.{line_numbers, row_numbers, cut}
-use mathlib.Core.Path.{◌≡◌, refl, sym, ◌∙◌}
+use Rattle.fields.specs.Fields.{row_numbers, cut}
+use mathlib.Core.Path.{◌≡◌}
 use Rattle.fields.proofs.read_rows.Given as goal
 
 abbrev pub invariant-loop-y : goal.invariant-loop-y

@@ -2,13 +2,10 @@ use lib.ListN.{get_or}
 use lib.Ieee.{binary32, of_int}
 use lib.IntN.{pos}
 use Rattle.listing.proofs.Values.{value_more, take_all}
-use Rattle.listing.specs.Listing.{values_of}
 use borrow.Author.Rules.{rules}
-use lib.ListN.{length, take, drop, length-set}
+use lib.ListN.{length, length-set}
 use native.Mathlib.Omega.{arith}
-use mathlib.Core.List.{◌++◌}
 use mathlib.Core.Path.{◌≡◌, refl, ◌∙◌}
-use Prim.Native.Nat.{◌≤◌, ◌-◌}
 use Rattle.listing.proofs.fill_values.Goals as goal
 
 pub loop-i-init : goal.loop-i-init

@@ -1,13 +1,7 @@
-use lib.ListN.{get_or}
-use lib.Ieee.{binary32, of_int}
-use lib.IntN.{pos}
-use Rattle.listing.proofs.Values.{value_more, take_all}
 use Rattle.listing.specs.Listing.{values_of}
-use borrow.Author.Rules.{rules}
-use lib.ListN.{length, take, drop, length-set}
-use native.Mathlib.Omega.{arith}
+use lib.ListN.{length, take, drop}
 use mathlib.Core.List.{◌++◌}
-use mathlib.Core.Path.{◌≡◌, refl, ◌∙◌}
+use mathlib.Core.Path.{◌≡◌}
 use Prim.Native.Nat.{◌≤◌, ◌-◌}
 use Rattle.listing.proofs.fill_values.Given as goal
 

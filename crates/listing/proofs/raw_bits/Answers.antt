@@ -5,7 +5,6 @@ use Rattle.literals.proofs.Words.{bits_most}
 use borrow.Author.Tests.{eq-eqb, ne_eqb}
 use mathlib.Core.Path.{◌≡◌, ◌∙◌, sym}
 use native.Mathlib.Omega.{arith}
-use borrow.Author.Rules.{rules}
 use Rattle.listing.proofs.raw_bits.Goals as goal
 
 pub returns-then-kind-eq1 : goal.returns-then-kind-eq1

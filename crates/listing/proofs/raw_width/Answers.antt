@@ -1,10 +1,7 @@
 use Rattle.lists.proofs.Rest.{next, done}
 use Rattle.literals.specs.Words.{raw_width_of}
 use borrow.Author.Rules.{rules}
-use lib.ListN.{take, drop}
 use native.Mathlib.Omega.{arith}
-use mathlib.Core.Path.{◌≡◌}
-use Prim.Native.Nat.{◌≤◌, ◌+◌, ◌*◌, ◌-◌}
 use Rattle.listing.proofs.raw_width.Goals as goal
 
 pub loop-i-init : goal.loop-i-init

@@ -1,8 +1,5 @@
-use Rattle.lists.proofs.Rest.{next, done}
 use Rattle.literals.specs.Words.{raw_width_of}
-use borrow.Author.Rules.{rules}
 use lib.ListN.{take, drop}
-use native.Mathlib.Omega.{arith}
 use mathlib.Core.Path.{◌≡◌}
 use Prim.Native.Nat.{◌≤◌, ◌+◌, ◌*◌, ◌-◌}
 use Rattle.listing.proofs.raw_width.Given as goal

@@ -1,6 +1,5 @@
 use mathlib.Core.Path.{refl}
 use Rattle.literals.specs.Words.{word}
-use borrow.Author.Rules.{rules}
 use Rattle.literals.proofs.call.Goals as goal
 
 pub returns : goal.returns

@@ -1,6 +1,5 @@
 use mathlib.Core.Path.{refl}
 use Rattle.literals.specs.Literals.{cut_bits}
-use borrow.Author.Rules.{rules}
 use Rattle.literals.proofs.cut_bits.Goals as goal
 
 pub returns : goal.returns

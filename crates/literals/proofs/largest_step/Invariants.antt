@@ -1,11 +1,7 @@
 use mathlib.Core.Path.{◌≡◌}
-use Prim.Native.Nat.{ℕ, ◌+◌, ◌-◌, ◌≤◌, max}
-use native.Mathlib.Omega.{arith}
-use lib.ListN.{length, get_or, take, drop}
-use borrow.Author.Rules.{rules}
-use Rattle.lists.proofs.Rest.{next, done}
+use Prim.Native.Nat.{◌+◌, ◌-◌, ◌≤◌, max}
+use lib.ListN.{get_or, take, drop}
 use Rattle.literals.specs.Literals.{largest_step}
-use Rattle.literals.proofs.Colors.{eight, rises}
 use Rattle.literals.proofs.largest_step.Given as goal
 
 -- the largest so far and the largest left give the largest

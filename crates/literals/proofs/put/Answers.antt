@@ -1,6 +1,5 @@
 use mathlib.Core.Path.{refl}
 use Rattle.lists.specs.Written.{written}
-use borrow.Author.Rules.{rules}
 use Rattle.literals.proofs.put.Goals as goal
 
 pub returns : goal.returns

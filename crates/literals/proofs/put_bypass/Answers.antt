@@ -1,4 +1,3 @@
-use borrow.Author.Rules.{rules}
 use Rattle.literals.proofs.put_bypass.Goals as goal
 
 pub returns : goal.returns

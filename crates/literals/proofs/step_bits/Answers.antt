@@ -5,7 +5,6 @@ use Rattle.literals.specs.Literals.{step_bits}
 use Rattle.literals.proofs.Levels.{levels_ascend}
 use Rattle.literals.proofs.Colors.{eight}
 use Rattle.literals.proofs.Widths.{step_bits_least, step_bits_most}
-use borrow.Author.Rules.{rules}
 use Rattle.literals.proofs.step_bits.Goals as goal
 
 pub largest_step-requires : goal.largest_step-requires

@@ -1,12 +1,7 @@
-use mathlib.Core.Path.{◌≡◌, ap, ◌∙◌}
+use mathlib.Core.Path.{◌≡◌}
 use Prim.Native.Nat.{◌+◌, ◌*◌, ◌-◌, ◌≤◌}
-use native.Mathlib.Omega.{arith}
-use lib.ListN.{length, get_or, take, drop}
-use borrow.Author.Rules.{rules}
-use Rattle.lists.proofs.Rest.{next, done}
-use Rattle.literals.specs.Literals.{cut_bits, steps_width}
-use Rattle.literals.proofs.Colors.{eight, reaches}
-use Rattle.literals.proofs.Widths.{cut_bits_le}
+use lib.ListN.{take, drop}
+use Rattle.literals.specs.Literals.{steps_width}
 use Rattle.literals.proofs.steps_width.Given as goal
 
 abbrev pub invariant-loop-i : goal.invariant-loop-i

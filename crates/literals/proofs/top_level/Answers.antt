@@ -1,6 +1,5 @@
 use mathlib.Core.Path.{refl}
 use native.Mathlib.Omega.{arith}
-use borrow.Author.Rules.{rules}
 use lib.Pow.{pow_pos, pow-lt}
 use Rattle.counts.proofs.Log.{shifted}
 use Rattle.literals.proofs.top_level.Goals as goal

@@ -1,5 +1,4 @@
 use mathlib.Core.Path.{refl}
-use borrow.Author.Rules.{rules}
 use Rattle.near.proofs.edge_key.Goals as goal
 
 pub returns : goal.returns

@@ -1,7 +1,6 @@
 use mathlib.Core.Path.{refl}
 use native.Mathlib.Omega.{arith}
 use Rattle.rows.proofs.Laws.{row_around}
-use borrow.Author.Rules.{rules}
 use Rattle.near.proofs.three_key.Goals as goal
 
 -- whichever way the three are given, so that an edit is refused at the answer

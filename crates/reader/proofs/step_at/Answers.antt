@@ -1,7 +1,5 @@
-use Prim.Native.Nat.{◌-◌}
 use native.Mathlib.Omega.{arith}
 use Rattle.reader.proofs.Steps.{step_ended, step_below, step_second, step_above}
-use borrow.Author.Rules.{rules}
 use Rattle.reader.proofs.step_at.Goals as goal
 
 pub returns-then-words-at : goal.returns-then-words-at

@@ -1,12 +1,11 @@
 use native.Mathlib.Omega.{arith}
 use Rattle.reader.proofs.Steps.{second_inside, took_second, took_ended, took_wrong}
-use borrow.Author.Rules.{rules}
 use Rattle.reader.proofs.take.Goals as goal
 
 pub overflow_add-at : goal.overflow_add-at
 overflow_add-at c =
     let a = c.args in
-    let second = rw c.second-1.given.1 at c.step_in.ensures in
+    let second = rw c.in-Second.is at c.step_in.ensures in
     let inside = second_inside a.words.now a.at a.kind a.first a.limit _ second in
     omega (arith, inside)
 

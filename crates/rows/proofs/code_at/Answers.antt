@@ -1,5 +1,4 @@
 use Rattle.rows.proofs.Laws.{code_in}
-use borrow.Author.Rules.{rules}
 use Rattle.rows.proofs.code_at.Goals as goal
 
 pub returns : goal.returns

@@ -1,5 +1,4 @@
 use Rattle.rows.proofs.Laws.{order_in}
-use borrow.Author.Rules.{rules}
 use Rattle.rows.proofs.index_at.Goals as goal
 
 pub returns : goal.returns

@@ -1,6 +1,5 @@
 use native.Mathlib.Omega.{arith}
 use Rattle.rows.proofs.Laws.{rank_eight}
-use borrow.Author.Rules.{rules}
 use Rattle.rows.proofs.rank_at.Goals as goal
 
 pub returns : goal.returns

@@ -1,7 +1,6 @@
 use mathlib.Core.Path.{refl}
 use lib.ListN.{length}
 use borrow.Author.Tests.{eq-eqb, ne_eqb}
-use borrow.Author.Rules.{rules}
 use Rattle.samples.proofs.costs_ok.Goals as goal
 
 pub returns-then-costs-eq301 : goal.returns-then-costs-eq301

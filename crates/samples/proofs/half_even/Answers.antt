@@ -2,7 +2,6 @@ use mathlib.Core.Path.{◌≡◌, sym}
 use Prim.Native.Nat.{ℕ, ◌%◌, ◌-◌}
 use native.Mathlib.Omega.{arith}
 use lib.Pow.{shr_le}
-use borrow.Author.Rules.{rules}
 use Rattle.samples.proofs.Halves.{even, tie, above}
 use Rattle.samples.proofs.half_even.Goals as goal
 

@@ -6,7 +6,6 @@ use lib.Dec.{T, leb}
 use lib.Pow.{pow_mono, shr_lt}
 use lib.Ieee.{Float, binary32, fits, of_bits, to_bits}
 use lib.Ieee.Bits.{of_bits-to_bits}
-use borrow.Author.Rules.{rules}
 use Rattle.ieee.specs.Bounds.{Under}
 use Rattle.ieee.proofs.Signs.{resign}
 use Rattle.samples.specs.Samples.{level_of}

@@ -3,7 +3,6 @@ use Prim.Native.Nat.{◌+◌, ◌-◌, ◌*◌, ◌/◌, ◌^◌, ◌≤◌, zer
 use native.Mathlib.Nat.{le_refl}
 use native.Mathlib.Omega.{arith}
 use lib.Ieee.{binary32, binary64, of_bits}
-use borrow.Author.Rules.{rules}
 use Rattle.samples.specs.Narrow.{narrow_of}
 use Rattle.samples.proofs.Narrowing.{nothing, few, most, above}
 use Rattle.samples.proofs.narrow_bits.Goals as goal

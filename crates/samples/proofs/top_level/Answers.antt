@@ -3,7 +3,6 @@ use Prim.Native.Nat.{ℕ, ◌*◌, ◌%◌, ◌^◌, ◌≤◌}
 use native.Mathlib.Nat.{one-mul, mod-eq_of_lt}
 use native.Mathlib.Omega.{arith}
 use lib.Pow.{pow-lt, pow_pos}
-use borrow.Author.Rules.{rules}
 use Rattle.samples.proofs.top_level.Goals as goal
 
 -- `samples::top_level` meets its contract. Assumes nothing.

@@ -1,9 +1,6 @@
-use mathlib.Core.Path.{sym}
 use Prim.Native.Nat.{◌-◌}
-use native.Mathlib.Omega.{arith}
-use Rattle.lists.proofs.Each.{Filled, starts, more, whole}
-use Rattle.tables.specs.Icdf.{color_table, color_rows}
-use Rattle.tables.proofs.Flat.{by_place_is, count}
+use Rattle.lists.proofs.Each.{Filled}
+use Rattle.tables.specs.Icdf.{color_rows}
 use Rattle.tables.proofs.color_rows.Given as goal
 
 abbrev pub invariant-loop-k : goal.invariant-loop-k

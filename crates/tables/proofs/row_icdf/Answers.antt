@@ -1,6 +1,5 @@
 use Rattle.tables.specs.Icdf.{row_icdf, row_table}
 use borrow.Author.Tests.{lt-ltb, le-ltb}
-use borrow.Author.Rules.{rules}
 use Rattle.tables.proofs.row_icdf.Goals as goal
 
 pub returns-then-context-ge4 : goal.returns-then-context-ge4

@@ -1,7 +1,6 @@
 use Rattle.tables.specs.Icdf.{size_icdf, size_table}
 use lib.ListN.{get_or-eq_default}
 use mathlib.Core.Path.{refl, sym}
-use borrow.Author.Rules.{rules}
 use Rattle.tables.proofs.y_size_icdf.Goals as goal
 
 pub returns-then-k-lt6 : goal.returns-then-k-lt6
