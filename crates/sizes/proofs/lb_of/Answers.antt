@@ -1,7 +1,6 @@
 use mathlib.Core.Path.{refl}
 use native.Mathlib.Omega.{arith}
 use Rattle.sizes.proofs.Parts.{fewest_most}
-use borrow.Author.Rules.{rules}
 use Rattle.sizes.proofs.lb_of.Goals as goal
 
 pub overflow_cast-lines : goal.overflow_cast-lines

@@ -1,9 +1,6 @@
-use mathlib.Core.Path.{◌≡◌, refl, ap, ◌∙◌}
-use Prim.Native.Nat.{ℕ, ◌+◌, ◌-◌, ◌≤◌, ◌<◌}
+use mathlib.Core.Path.{refl, ap, ◌∙◌}
 use native.Mathlib.Omega.{arith}
-use lib.ListN.{length, get_or, length-set}
-use lib.Ieee.{nan}
-use borrow.Author.Rules.{rules}
+use lib.ListN.{length-set}
 use Rattle.sizes.specs.Sizes.{size_of}
 use Rattle.sizes.proofs.Turns.{placed_turn}
 use Rattle.sizes.proofs.lbs_of.Goals as goal
@@ -30,10 +27,10 @@ pub loop-k-preserved : goal.loop-k-preserved
 loop-k-preserved c =
     let a = c.args in
     let l = c.loop-k in (
-      length-set l.lbs l.k c.type_size.result.lb ∙ l.invariant.0,
+      length-set l.lbs l.k c.size_of-z.result.lb ∙ l.invariant.0,
       omega arith,
-      placed_turn (λ j. (size_of a.costs.now a.b a.h j).lb) l.lbs l.k c.type_size.result.lb
-          (omega arith) (ap (λ z. z.lb) c.type_size.ensures) l.invariant.2,
+      placed_turn (λ j. (size_of a.costs.now a.b a.h j).lb) l.lbs l.k c.size_of-z.result.lb
+          (omega arith) (ap (λ z. z.lb) c.size_of-z.ensures) l.invariant.2,
     )
 
 pub returns : goal.returns

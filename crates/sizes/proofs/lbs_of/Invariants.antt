@@ -1,11 +1,8 @@
-use mathlib.Core.Path.{◌≡◌, refl, ap, ◌∙◌}
+use mathlib.Core.Path.{◌≡◌}
 use Prim.Native.Nat.{ℕ, ◌+◌, ◌-◌, ◌≤◌, ◌<◌}
-use native.Mathlib.Omega.{arith}
-use lib.ListN.{length, get_or, length-set}
+use lib.ListN.{length, get_or}
 use lib.Ieee.{nan}
-use borrow.Author.Rules.{rules}
 use Rattle.sizes.specs.Sizes.{size_of}
-use Rattle.sizes.proofs.Turns.{placed_turn}
 use Rattle.sizes.proofs.lbs_of.Given as goal
 
 abbrev pub invariant-loop-k : goal.invariant-loop-k

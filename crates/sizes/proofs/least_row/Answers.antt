@@ -1,12 +1,9 @@
-use mathlib.Core.Path.{◌≡◌, refl, sym, ◌∙◌}
-use mathlib.Core.Logic.{⊎_elim}
-use Prim.Native.Nat.{◌-◌, ◌≤◌}
+use mathlib.Core.Path.{refl, sym, ◌∙◌}
 use native.Mathlib.Omega.{arith}
-use lib.ListN.{take, drop}
 use lib.Ieee.{of_bits, div}
-use Rattle.sizes.specs.Sizes.{least_of, least_row}
 use Rattle.sizes.proofs.Turns.{least_turn, least_done}
 use Rattle.sizes.proofs.least_row.Goals as goal
+use Rattle.sizes.proofs.least_row.Goals.{then-costs-i, else-costs-i}
 
 pub loop-i-init : goal.loop-i-init
 unfolding of_bits div
@@ -35,7 +32,10 @@ loop-i-preserved c =
     let costs = c.args.costs.now in
     let l = c.loop-i in (
       least_turn costs 21 (omega arith) l.i l.least c.if-costs-i.least (omega arith)
-          (⊎_elim (λ w. w.2 ∙ rw w.0.taken refl) (λ w. w.1 ∙ rw w.0.left refl) c.if-costs-i.branch)
+          (elim c.if-costs-i.branch [
+            | then-costs-i w ↦ w.least-is ∙ rw w.if-costs-i.true refl
+            | else-costs-i w ↦ w.least-is ∙ rw w.if-costs-i.false refl
+          ])
           ∙ l.invariant.0,
       omega arith,
     )

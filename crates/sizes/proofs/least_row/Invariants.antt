@@ -1,11 +1,7 @@
-use mathlib.Core.Path.{◌≡◌, refl, sym, ◌∙◌}
-use mathlib.Core.Logic.{⊎_elim}
+use mathlib.Core.Path.{◌≡◌}
 use Prim.Native.Nat.{◌-◌, ◌≤◌}
-use native.Mathlib.Omega.{arith}
 use lib.ListN.{take, drop}
-use lib.Ieee.{of_bits, div}
 use Rattle.sizes.specs.Sizes.{least_of, least_row}
-use Rattle.sizes.proofs.Turns.{least_turn, least_done}
 use Rattle.sizes.proofs.least_row.Given as goal
 
 abbrev pub invariant-loop-i : goal.invariant-loop-i

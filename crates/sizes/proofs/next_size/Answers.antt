@@ -1,15 +1,14 @@
 use mathlib.Core.Path.{◌≡◌, refl, sym, ◌∙◌}
 use mathlib.Core.Bool.{Bool, false}
-use mathlib.Core.Logic.{⊎_elim}
-use Prim.Native.Nat.{ℕ, ◌-◌, ◌≤◌, ◌<◌}
+use Prim.Native.Nat.{ℕ}
 use native.Mathlib.Omega.{arith}
 use lib.ListN.{get_or}
 use lib.Ieee.{Float, nan}
 use borrow.Author.Tests.{eq-eqb, ne_eqb}
-use Rattle.cells.specs.Cell.{first_cheapest}
-use Rattle.sizes.specs.Order.{those, all_sizes}
-use Rattle.sizes.proofs.Turns.{from, found, step, step_below, found_none, next_turn}
+use Rattle.sizes.specs.Order.{those}
+use Rattle.sizes.proofs.Turns.{found, step, step_below, found_none, next_turn}
 use Rattle.sizes.proofs.next_size.Goals as goal
+use Rattle.sizes.proofs.next_size.Goals.{then-open-k+then-best-eq0, then-open-k+else-best-eq0+then-lbs-k, then-open-k+else-best-eq0+else-lbs-k, else-open-k}
 
 pub loop-k-init : goal.loop-k-init
 unfolding found
@@ -43,10 +42,14 @@ loop-k-preserved c =
     let cost : ℕ → Float = λ j. get_or a.lbs.now j nan in
     let test : ℕ → Bool = λ j. get_or a.«open».now j false in
     let e : c.if-open-k.best ≡ step cost test l.best l.k =
-    ⊎_elim (λ w. w.2 ∙ rw (w.0.taken, eq-eqb _ _ w.1.taken) refl)
-    (⊎_elim (λ w. w.5 ∙ rw (w.0.taken, ne_eqb _ _ w.1.left, w.4.taken) refl)
-    (⊎_elim (λ w. w.5 ∙ rw (w.0.taken, ne_eqb _ _ w.1.left, w.4.left) refl)
-    (λ w. w.1 ∙ rw w.0.left refl))) c.if-open-k.branch in (
+    elim c.if-open-k.branch [
+      | then-open-k+then-best-eq0 w ↦ w.best-is ∙ rw (w.if-open-k.true, eq-eqb _ _ w.if-best-eq0.true) refl
+      | then-open-k+else-best-eq0+then-lbs-k w ↦
+          w.best-is ∙ rw (w.if-open-k.true, ne_eqb _ _ w.if-best-eq0.false, w.if-lbs-k.true) refl
+      | then-open-k+else-best-eq0+else-lbs-k w ↦
+          w.best-is ∙ rw (w.if-open-k.true, ne_eqb _ _ w.if-best-eq0.false, w.if-lbs-k.false) refl
+      | else-open-k w ↦ w.best-is ∙ rw w.if-open-k.false refl
+    ] in (
       next_turn cost test l.best l.k c.if-open-k.best (omega arith) (omega arith) e ∙ l.invariant.0,
       omega arith,
       omega arith,

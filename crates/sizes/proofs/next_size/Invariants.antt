@@ -1,14 +1,11 @@
-use mathlib.Core.Path.{◌≡◌, refl, sym, ◌∙◌}
-use mathlib.Core.Bool.{Bool, false}
-use mathlib.Core.Logic.{⊎_elim}
+use mathlib.Core.Path.{◌≡◌}
+use mathlib.Core.Bool.{false}
 use Prim.Native.Nat.{ℕ, ◌-◌, ◌≤◌, ◌<◌}
-use native.Mathlib.Omega.{arith}
 use lib.ListN.{get_or}
-use lib.Ieee.{Float, nan}
-use borrow.Author.Tests.{eq-eqb, ne_eqb}
+use lib.Ieee.{nan}
 use Rattle.cells.specs.Cell.{first_cheapest}
 use Rattle.sizes.specs.Order.{those, all_sizes}
-use Rattle.sizes.proofs.Turns.{from, found, step, step_below, found_none, next_turn}
+use Rattle.sizes.proofs.Turns.{from, found}
 use Rattle.sizes.proofs.next_size.Given as goal
 
 abbrev pub invariant-loop-k : goal.invariant-loop-k

@@ -1,5 +1,4 @@
 use Rattle.sizes.proofs.Parts.{tables_at, levels_ok_holds, size_is}
-use borrow.Author.Rules.{rules}
 use Rattle.sizes.proofs.size_of.Goals as goal
 
 pub groups_of-g-requires : goal.groups_of-g-requires
