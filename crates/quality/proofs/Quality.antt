@@ -9,7 +9,7 @@ use native.Mathlib.Nat.{le_refl, le_of_lt, mul-le-mul_right, mul-le-mul_left, mu
 use native.Mathlib.Omega.{arith}
 use lib.Dec.{lit≤}
 use lib.Pow.{pow_pos}
-use lib.Ieee.{Float, fin, binary64, up, down, lt, of_bits, inf, nan}
+use lib.Ieee.{Float, fin, binary64, up, down, lt, of_bits, nan, inf}
 use lib.Ieee.Fits.{down_pos}
 use lib.Ieee.Positive.{num, den, den_pos as own-den-pos}
 use Rattle.ieee.proofs.Signed.{Is, lt_true, lt_false}

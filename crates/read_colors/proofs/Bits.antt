@@ -9,7 +9,7 @@ use lib.Dec.{eqb}
 use lib.ListN.{length, get_or, take, drop, drop_of_length-le}
 use lib.Seq.{drop-cons}
 use borrow.Author.Tests.{eq-eqb, ne_eqb, le-leb, lt-leb}
-use Rattle.reader.specs.Reader.{Got, got, fault, after, ret}
+use Rattle.reader.specs.Reader.{Got, got, after, ret}
 use Rattle.read_colors.specs.Colors.{insert, read_bit, read_cache}
 use Rattle.reader.specs.Steps.{told, Took}
 use Rattle.read_colors.specs.Held.{held_in, Sound}

@@ -7,7 +7,7 @@ use lib.ListN.{length, drop}
 use Rattle.lists.proofs.Rest.{one_left, none_left}
 use Rattle.literals.specs.Literals.{cut_bits}
 use Rattle.literals.proofs.Widths.{cut_bits_le}
-use Rattle.reader.specs.Reader.{Got, fault, after}
+use Rattle.reader.specs.Reader.{Got, after}
 use Rattle.read_colors.specs.Colors.{insert, read_cache, read_steps, read_more, read_literals, read_sized, read_colors}
 use Rattle.reader.specs.Steps.{told, Took}
 use Rattle.read_colors.specs.Held.{in_eight, held_in, Sound}

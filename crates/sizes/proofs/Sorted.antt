@@ -1,5 +1,5 @@
 -- The law of `in_order`: where no lb is infinite or NaN, it has every size once, by ascending lb, ties by fewer colours.
-use mathlib.Core.Path.{◌≡◌, refl, sym, ap, subst, ◌∙◌}
+use mathlib.Core.Path.{subst, ◌≡◌, refl, sym, ap, ◌∙◌}
 use mathlib.Core.Bool.{Bool, true, false, not, ◌&&◌, ◌||◌, false≢true}
 use mathlib.Core.Logic.{inl, inr}
 use mathlib.Core.List.{List, [], ◌∷◌}
@@ -55,8 +55,7 @@ ordered_elem lb (suc m) (k ∷ ks) h j =
     ∙ go (eqb j c) refl
   where
     go : (t : Bool) → eqb j (cheapest lb k ks) ≡ t → t || (not t && elem j (k ∷ ks)) ≡ elem j (k ∷ ks)
-    go true e =
-        sym (subst (λ (i : ℕ). elem i (k ∷ ks) ≡ true) (sym (eqb-true j (cheapest lb k ks) e)) (cheapest_in lb k ks))
+    go true e = sym (subst (λ (z : ℕ). elem z (k ∷ ks) ≡ true) (sym (eqb-true j (cheapest lb k ks) e)) (cheapest_in lb k ks))
     go false e = refl
 
 -- none stands twice: no size goes before itself

@@ -1,22 +1,23 @@
 use mathlib.Core.Path.{◌≡◌, refl, ap, ◌∙◌}
-use Prim.Native.Nat.{◌-◌, ◌≤◌, ◌<◌}
+use Prim.Native.Nat.{◌<◌}
 use native.Mathlib.Omega.{arith}
-use Rattle.context.specs.Order.{Around, by_three, order_of}
+use Rattle.context.specs.Order.{Around, by_three}
 use Rattle.rows.specs.Rows.{around_row, Fits}
-use Rattle.color_ctx.specs.Context.{ranks_of, answered}
-use Rattle.color_ctx.proofs.Filling.{row_known, filling, order_turn, ranks_turn, filled}
+use Rattle.color_ctx.specs.Context.{answered}
+use Rattle.color_ctx.proofs.Filling.{row_known, order_turn, ranks_turn, filled}
 use borrow.Author.Rules.{rules}
 use Rattle.color_ctx.proofs.answer.Goals as goal
+use Rattle.color_ctx.proofs.answer.Goals.{After-row_of-row, Start}
 
-abbrev start : goal.After-row_of-row → goal.Start
+abbrev start : After-row_of-row → Start
 start c = c.before.before.before
 
-abbrev Known : goal.After-row_of-row → Type 0
+abbrev Known : After-row_of-row → Type 0
 Known c =
     let a = (start c).args in
     Fits c.row_of-row.result a.n × (around_row c.row_of-row.result ≡ by_three a.left.0 a.top.0 a.diag.0)
 
-known : (c : goal.After-row_of-row) → Known c
+known : (c : After-row_of-row) → Known c
 known c =
     let p = (start c).requires in
     row_known _ _ _ _ (start c).args.n c.row_of-row.ensures p.0 p.1 p.2 p.3

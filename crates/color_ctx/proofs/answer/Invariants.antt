@@ -1,11 +1,9 @@
-use mathlib.Core.Path.{◌≡◌, refl, ap, ◌∙◌}
-use Prim.Native.Nat.{◌-◌, ◌≤◌, ◌<◌}
-use native.Mathlib.Omega.{arith}
-use Rattle.context.specs.Order.{Around, by_three, order_of}
-use Rattle.rows.specs.Rows.{around_row, Fits}
-use Rattle.color_ctx.specs.Context.{ranks_of, answered}
-use Rattle.color_ctx.proofs.Filling.{row_known, filling, order_turn, ranks_turn, filled}
-use borrow.Author.Rules.{rules}
+use mathlib.Core.Path.{◌≡◌}
+use Prim.Native.Nat.{◌-◌, ◌≤◌}
+use Rattle.context.specs.Order.{order_of}
+use Rattle.rows.specs.Rows.{around_row}
+use Rattle.color_ctx.specs.Context.{ranks_of}
+use Rattle.color_ctx.proofs.Filling.{filling}
 use Rattle.color_ctx.proofs.answer.Given as goal
 
 abbrev pub invariant-loop-i : goal.invariant-loop-i

@@ -1,5 +1,4 @@
 use mathlib.Core.Path.{ap, ◌∙◌}
-use borrow.Author.Rules.{rules}
 use Rattle.color_ctx.proofs.Parts.{edge, one_three}
 use Rattle.color_ctx.proofs.from_one.Goals as goal
 

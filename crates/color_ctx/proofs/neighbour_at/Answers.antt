@@ -1,5 +1,4 @@
 use borrow.Author.Tests.{lt-ltb, le-ltb}
-use borrow.Author.Rules.{rules}
 use Rattle.color_ctx.specs.Parts.{neighbour_at}
 use Rattle.color_ctx.proofs.neighbour_at.Goals as goal
 

@@ -1,6 +1,5 @@
 use native.Mathlib.Omega.{arith}
 use native.Mathlib.Nat.{le-div_iff_mul-le, div-lt_iff_lt-mul}
-use borrow.Author.Rules.{rules}
 use Rattle.color_ctx.proofs.place_of.Goals as goal
 
 pub returns-then-len-stride : goal.returns-then-len-stride

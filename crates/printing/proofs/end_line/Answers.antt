@@ -1,4 +1,3 @@
-use borrow.Author.Rules.{rules}
 use mathlib.Core.Path.{refl}
 use Rattle.lists.specs.Written.{written}
 use Rattle.printing.specs.Printing.{line}

@@ -1,5 +1,4 @@
 use native.Mathlib.Omega.{arith}
-use borrow.Author.Rules.{rules}
 use mathlib.Core.Path.{◌∙◌}
 use Rattle.printing.specs.Printing.{call_line}
 use Rattle.printing.proofs.Laws.{field_then}

@@ -1,15 +1,8 @@
-use native.Mathlib.Omega.{arith}
-use borrow.Author.Rules.{rules}
-use mathlib.Core.Path.{◌≡◌, refl, ◌∙◌}
-use mathlib.Core.List.{◌∷◌}
+use mathlib.Core.Path.{◌≡◌}
 use Prim.Native.Nat.{◌≤◌, ◌+◌, ◌-◌, ◌*◌}
-use lib.ListN.{length, get_or, drop, drop_of_length-le}
-use lib.Seq.{drop-cons}
+use lib.ListN.{length, drop}
 use Rattle.lists.specs.Written.{written}
-use Rattle.printing.specs.Printing.{call_line, call_lines}
-use Rattle.lists.proofs.Written.{then}
-use Rattle.printing.proofs.Laws.{length_call}
-use native.Mathlib.Numerals.{add-one}
+use Rattle.printing.specs.Printing.{call_lines}
 use Rattle.printing.proofs.print_calls.Given as goal
 
 abbrev pub invariant-loop-i : goal.invariant-loop-i

@@ -1,7 +1,7 @@
 use native.Mathlib.Omega.{arith}
 use borrow.Author.Rules.{rules}
 use mathlib.Core.Path.{◌≡◌, refl, ◌∙◌}
-use Prim.Native.Nat.{suc, ◌≤◌, ◌<◌, ◌+◌, ◌-◌, ◌/◌}
+use Prim.Native.Nat.{suc, ◌<◌, ◌+◌, ◌-◌, ◌/◌}
 use lib.ListN.{length, length-set}
 use Rattle.lists.specs.Written.{written}
 use Rattle.printing.specs.Printing.{digits, field}

@@ -1,11 +1,8 @@
-use native.Mathlib.Omega.{arith}
-use borrow.Author.Rules.{rules}
-use mathlib.Core.Path.{◌≡◌, refl, ◌∙◌}
-use Prim.Native.Nat.{suc, ◌≤◌, ◌<◌, ◌+◌, ◌-◌, ◌/◌}
-use lib.ListN.{length, length-set}
+use mathlib.Core.Path.{◌≡◌}
+use Prim.Native.Nat.{◌≤◌}
+use lib.ListN.{length}
 use Rattle.lists.specs.Written.{written}
-use Rattle.printing.specs.Printing.{digits, field}
-use Rattle.printing.proofs.Laws.{last_column}
+use Rattle.printing.specs.Printing.{digits}
 use Rattle.printing.proofs.print_field.Given as goal
 
 abbrev pub invariant-loop-k : goal.invariant-loop-k

@@ -1,8 +1,8 @@
 use mathlib.Core.Path.{◌≡◌, refl, ◌∙◌}
 use mathlib.Core.List.{List}
-use Prim.Native.Nat.{ℕ, ◌+◌, ◌-◌, ◌≤◌, ◌<◌, min, max}
+use Prim.Native.Nat.{ℕ, ◌+◌, ◌≤◌, ◌<◌, min, max}
 use native.Mathlib.Omega.{arith}
-use lib.ListN.{length, take, drop, set, get_or, replicate, length-set}
+use lib.ListN.{length, take, set, get_or, replicate, length-set}
 use lib.Seq.{length-take-le}
 use borrow.Author.Rules.{rules}
 use borrow.Kind.Array.{good_length, e_int}
@@ -13,13 +13,11 @@ use Rattle.lists.proofs.Written.{written_front}
 use Rattle.read_colors.specs.Colors.{insert}
 use Rattle.read_colors.specs.Held.{in_eight}
 use Rattle.read_colors.proofs.Inserted.{length_insert}
+use mir.Val.{Val}
+use denote.Laws.{Is}
+use denote.Array.{Array}
+use Rattle.read_colors.proofs.insert.Invariants.{Inv}
 use Rattle.read_colors.proofs.insert.Goals as goal
-
--- What is put so far, and where the colour carried stands among the rest. Assumes nothing.
-record Inv (count : ℕ) (colors : List ℕ) (e : ℕ) (out : List ℕ) (carry i : ℕ) : Type 0 where
-  seen : i ≤ count
-  eight : length out ≡ 8
-  put : written out i (insert carry (drop i (take count colors))) ≡ written (replicate 8 0) 0 (insert e (take count colors))
 
 module _ (count : ℕ) (colors : List ℕ) (e : ℕ) (out : List ℕ) (carry i : ℕ) (v : Inv count colors e out carry i) (fits : count ≤ length colors) where
   turn : i < count → (low high : ℕ) → low ≡ min carry (get_or colors i 0) → high ≡ max carry (get_or colors i 0)
@@ -39,8 +37,8 @@ module _ (count : ℕ) (colors : List ℕ) (e : ℕ) (out : List ℕ) (carry i :
       let last = rw (done count colors fits i h) at v.put in
       rw same at last ∙ written_front (replicate 8 0) (insert e (take count colors)) few
 
-room : (c : goal.Start) → c.args.count ≤ length c.args.t1
-room c = omega (arith, c.requires, good_length (e_int w16) 8 c.args.t1 _ c.well_formed.0)
+room : (n : ℕ) (colors : List ℕ) (vs : List Val) → Is (Array (e_int w16).ty 8) colors vs → n < 8 → n ≤ length colors
+room n colors vs good h = omega (arith, good_length (e_int w16) 8 colors vs good)
 
 pub loop-i-init : goal.loop-i-init
 loop-i-init c = record { seen = search rules; eight = refl; put = refl }
@@ -48,8 +46,8 @@ loop-i-init c = record { seen = search rules; eight = refl; put = refl }
 pub loop-i-preserved : goal.loop-i-preserved
 loop-i-preserved c =
     let l = c.loop-i in
-    turn _ _ _ _ _ l.i l.invariant (room c.before.before.before.before) c.loop-i-test.true _ _ c.lesser.ensures c.greater-carry.ensures
+    turn _ _ _ _ _ l.i l.invariant (room _ _ _ c.well_formed.0 c.requires) c.loop-i-test.true _ _ c.lesser.ensures c.greater-carry.ensures
 
 pub returns : goal.returns
 returns c =
-    end _ _ _ _ _ c.loop-i.i c.loop-i.invariant (room c.before.before) c.requires c.loop-i-test.false
+    end _ _ _ _ _ c.loop-i.i c.loop-i.invariant (room _ _ _ c.well_formed.0 c.requires) c.requires c.loop-i-test.false

@@ -1,19 +1,16 @@
-use mathlib.Core.Path.{◌≡◌, refl, ◌∙◌}
+use mathlib.Core.Path.{◌≡◌}
 use mathlib.Core.List.{List}
-use Prim.Native.Nat.{ℕ, ◌+◌, ◌-◌, ◌≤◌, ◌<◌, min, max}
-use native.Mathlib.Omega.{arith}
-use lib.ListN.{length, take, drop, set, get_or, replicate, length-set}
-use lib.Seq.{length-take-le}
-use borrow.Author.Rules.{rules}
-use borrow.Kind.Array.{good_length, e_int}
-use mir.Syntax.{w16}
+use Prim.Native.Nat.{ℕ, ◌-◌, ◌≤◌}
+use lib.ListN.{length, take, drop, replicate}
 use Rattle.lists.specs.Written.{written}
-use Rattle.lists.proofs.Rest.{next, done}
-use Rattle.lists.proofs.Written.{written_front}
 use Rattle.read_colors.specs.Colors.{insert}
-use Rattle.read_colors.specs.Held.{in_eight}
-use Rattle.read_colors.proofs.Inserted.{length_insert}
 use Rattle.read_colors.proofs.insert.Given as goal
+
+-- What is put so far, and where the colour carried stands among the rest. Assumes nothing.
+pub record Inv (count : ℕ) (colors : List ℕ) (e : ℕ) (out : List ℕ) (carry i : ℕ) : Type 0 where
+  pub seen : i ≤ count
+  pub eight : length out ≡ 8
+  pub put : written out i (insert carry (drop i (take count colors))) ≡ written (replicate 8 0) 0 (insert e (take count colors))
 
 abbrev pub invariant-loop-i : goal.invariant-loop-i
 invariant-loop-i l = Inv l.count l.colors l.initial.carry l.out l.carry l.i

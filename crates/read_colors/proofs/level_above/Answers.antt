@@ -1,6 +1,5 @@
 use native.Mathlib.Omega.{arith}
 use lib.Pow.{pow_mono}
-use borrow.Author.Rules.{rules}
 use Rattle.read_colors.proofs.level_above.Goals as goal
 
 pub overflow_add-result : goal.overflow_add-result

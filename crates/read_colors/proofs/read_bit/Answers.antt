@@ -2,7 +2,6 @@ use mathlib.Core.Path.{refl}
 use native.Mathlib.Omega.{arith}
 use Rattle.read_colors.proofs.Inserted.{colors_in, added, sound_added, sound_moved}
 use Rattle.read_colors.proofs.Bits.{bit_one, bit_none}
-use borrow.Author.Rules.{rules}
 use Rattle.read_colors.proofs.read_bit.Goals as goal
 
 pub add-requires : goal.add-requires

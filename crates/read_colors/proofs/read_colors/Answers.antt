@@ -3,15 +3,14 @@ use Rattle.read_colors.proofs.Climb.{colors_fault, cache_faulty, then_literals}
 use lib.ListN.{replicate}
 use native.Mathlib.Omega.{arith}
 use mathlib.Core.Path.{refl, ◌∙◌}
-use borrow.Author.Rules.{rules}
 use Rattle.read_colors.proofs.read_colors.Goals as goal
 
 pub returns-then-place-ne0 : goal.returns-then-place-ne0
-returns-then-place-ne0 c = let a = c.args in (
-  colors_fault a.words.now a.bd a.cache.now _ c.take-size.ensures c.if-place-ne0.true
-      (record { count = 0; colors = replicate 8 0; place = c.take-size.result.place }) refl,
-  (sound_none _ _, λ h. absurd (c.if-place-ne0.true h)),
-)
+returns-then-place-ne0 c = let a = c.args in record {
+  words_value = colors_fault a.words.now a.bd a.cache.now _ c.take-size.ensures c.if-place-ne0.true
+      (record { count = 0; colors = replicate 8 0; place = c.take-size.result.place }) refl;
+  sound = (sound_none _ _, λ h. absurd (c.if-place-ne0.true h));
+}
 
 pub read_cache-held-requires : goal.read_cache-held-requires
 read_cache-held-requires c = omega (arith, c.take-size.ensures.below (omega arith))

@@ -5,14 +5,13 @@ use Rattle.counts.proofs.Log.{shifted}
 use lib.Pow.{pow-lt, pow_mono}
 use native.Mathlib.Omega.{arith}
 use mathlib.Core.Path.{sym, ap, ◌∙◌}
-use borrow.Author.Rules.{rules}
 use Rattle.read_colors.proofs.read_literals.Goals as goal
 
 pub returns-then-n-held : goal.returns-then-n-held
-returns-then-n-held c = let a = c.args in (
-  literals_none a.words.now a.bd a.n a.held c.requires.3 c.if-n-held.true,
-  (c.requires.4, λ h. omega (arith, c.if-n-held.true, c.requires.4.few)),
-)
+returns-then-n-held c = let a = c.args in record {
+  words_value = literals_none a.words.now a.bd a.n a.held c.requires.3 c.if-n-held.true;
+  sound = (c.requires.4, λ h. omega (arith, c.if-n-held.true, c.requires.4.few));
+}
 
 pub overflow_cast-limit-2 : goal.overflow_cast-limit-2
 overflow_cast-limit-2 c = let a = c.args in

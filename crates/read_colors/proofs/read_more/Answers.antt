@@ -3,24 +3,23 @@ use Rattle.read_colors.proofs.Climb.{more_none, more_fault, more_next}
 use Rattle.reader.specs.declared.Place.{Place}
 use native.Mathlib.Omega.{arith}
 use mathlib.Core.Path.{sym, ap, ◌∙◌}
-use borrow.Author.Rules.{rules}
 use Rattle.read_colors.proofs.read_more.Goals as goal
 
 pub returns-then-n-held : goal.returns-then-n-held
-returns-then-n-held c = let a = c.args in (
-  more_none a.words.now a.bd a.from.0 a.n a.held c.requires.4 c.if-n-held.true,
-  (c.requires.5, λ h. omega (arith, c.if-n-held.true, c.requires.5.few)),
-)
+returns-then-n-held c = let a = c.args in record {
+  words_value = more_none a.words.now a.bd a.from.0 a.n a.held c.requires.4 c.if-n-held.true;
+  sound = (c.requires.5, λ h. omega (arith, c.if-n-held.true, c.requires.5.few));
+}
 
 pub returns-then-next-ne0 : goal.returns-then-next-ne0
-returns-then-next-ne0 c = let a = c.args in let m = c.moved.ensures in (
-  more_fault a.words.now a.bd a.from.0 a.n a.held c.if-n-held.false _
-      c.take-taken.ensures c.moved.result m.1 c.if-next-ne0.true,
-  (
+returns-then-next-ne0 c = let a = c.args in let m = c.moved.ensures in record {
+  words_value = more_fault a.words.now a.bd a.from.0 a.n a.held c.if-n-held.false _
+      c.take-taken.ensures c.moved.result m.1 c.if-next-ne0.true;
+  sound = (
     sound_moved a.held c.moved.result _ _ c.requires.5 m.0 m.2 c.requires.5.few,
     λ h. absurd (c.if-next-ne0.true (ap (λ (x : Place). x.fault) (sym m.1) ∙ h)),
-  ),
-)
+  );
+}
 
 pub overflow_add-taken : goal.overflow_add-taken
 overflow_add-taken c = omega (

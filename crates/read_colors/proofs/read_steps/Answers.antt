@@ -1,11 +1,7 @@
 use Rattle.read_colors.proofs.Inserted.{sound_moved}
-use Rattle.read_colors.proofs.Climb.{StepsInv, steps_stop, steps_turn, steps_end}
+use Rattle.read_colors.proofs.Climb.{steps_stop, steps_turn, steps_end}
 use Rattle.reader.specs.declared.Place.{Place}
-use Rattle.read_colors.specs.Colors.{read_steps}
-use borrow.Author.Rules.{rules}
-use lib.ListN.{take, drop}
 use native.Mathlib.Omega.{arith}
-use Prim.Native.Nat.{◌-◌}
 use mathlib.Core.Path.{refl, sym, ap, ◌∙◌}
 use Rattle.read_colors.proofs.read_steps.Goals as goal
 

@@ -1,7 +1,6 @@
 use native.Mathlib.Omega.{arith}
 use lib.Pow.{pow-lt}
 use Rattle.counts.proofs.Log.{shifted}
-use borrow.Author.Rules.{rules}
 use Rattle.read_colors.proofs.step_limit.Goals as goal
 
 pub overflow_cast-reach-2 : goal.overflow_cast-reach-2

@@ -1,4 +1,6 @@
 use mathlib.Core.Path.{◌≡◌, refl, ◌∙◌}
+use mir.Syntax.{w16}
+use borrow.Kind.Array.{good_length, e_int}
 use native.Mathlib.Omega.{arith}
 use lib.ListN.{length, take}
 use lib.Seq.{length-take-le}
@@ -14,13 +16,14 @@ pub returns : goal.returns
 unfolding of_bits of_int round
 returns c =
     let a = c.args in
+    let eight : length a.colors ≡ 8 = good_length (e_int w16) 8 a.colors _ c.well_formed.1.1.0 in
+    -- the bit as a float
     let sent : c.if-orient_sent.sent ≡ nat binary32 (bit (orient_sent a.b.width a.b.height)) =
     rw (← c.orient_sent.ensures)
     (elim c.if-orient_sent.branch [
       | then-orient_sent w ↦ w.sent-is ∙ rw w.if-orient_sent.true refl
       | else-orient_sent w ↦ w.sent-is ∙ rw w.if-orient_sent.false refl
     ]) in
-    let eight : length a.colors ≡ 8 = omega arith in
     head_is a.costs.now a.b (take a.n a.colors) a.n _ _
     (length-take-le a.n a.colors (omega arith))
     c.literal_bits-literal.ensures.0
