@@ -25,6 +25,9 @@ groups_back (g ∷ gs) =
 -- ---- from a cut to its groups
 groups_of_cut : (k : ℕ) (xs c : List ℕ) → IsCut k (length xs) c → InARow k xs (groups_by xs c) × (starts_of (groups_by xs c) ≡ c)
 unfolding together starts_of groups_by
+groups_of_cut zero [] (i ∷ c) x = elim x [ ]
+groups_of_cut zero (y ∷ xs) (i ∷ c) x = elim x [ ]
+groups_of_cut (suc k) xs [] x = elim x [ ]
 groups_of_cut zero [] [] x = (record { count = refl; filled = tt; whole = refl }, refl)
 groups_of_cut zero (y ∷ xs) [] x = absurd (omega arith)
 groups_of_cut (suc k) xs (i ∷ c) x =

@@ -10,6 +10,7 @@ use Rattle.groups.specs.Groups.{IsCut}
 -- a cut into k groups has at least k levels
 pub cut_size : (k j : ℕ) (c : List ℕ) → IsCut k j c → k ≤ j
 cut_size zero j c x = zero-le
+cut_size (suc k) j [] x = elim x [ ]
 cut_size (suc k) j (i ∷ c) x = omega (arith, x.0, cut_size k i c x.1)
 
 -- cuts into k + 1 groups, the last of which starts at i
@@ -33,10 +34,13 @@ pub last_start : (k t : ℕ) → Joined (IsCut (suc k) t) (From k t) (IsCut (suc
 last_start k t = record { split = split; left = left; right = right }
   where
     split : (c : List ℕ) → IsCut (suc k) (suc t) c → IsCut (suc k) t c ⊎ From k t c
+    split [] x = elim x [ ]
     split (i ∷ c) x = elim (eq-or-lt_of_le (le_of_suc-le-suc x.0)) [ inl e ↦ inr (e, x.1) | inr l ↦ inl (l, x.1) ]
 
     left : (c : List ℕ) → IsCut (suc k) t c → IsCut (suc k) (suc t) c
+    left [] x = elim x [ ]
     left (i ∷ c) x = (le_trans x.0 (omega arith), x.1)
 
     right : (c : List ℕ) → From k t c → IsCut (suc k) (suc t) c
+    right [] x = elim x [ ]
     right (i ∷ c) x = (omega (arith, x.0), x.1)

@@ -3,7 +3,6 @@ use mathlib.Core.Path.{◌≡◌, refl}
 use mathlib.Core.List.{[], ◌∷◌}
 use lib.Dec.{lit<}
 use lib.Ieee.{Float, add, sub, mul, div, lt, of_bits, of_int, round}
-use lib.Ieee.Positive.{num, den}
 use Rattle.lists.specs.Written.{written}
 use Rattle.groups.specs.declared.Histogram.{Histogram}
 use Rattle.groups.specs.Histogram.{places, sum_to}

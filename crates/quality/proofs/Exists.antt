@@ -64,11 +64,13 @@ module _ (v : List ℕ) (h : Histogram) (is : IsHistogram v h) where
   added k i j (inl (m, a)) = inl ((i ∷ m), record { cut = (refl, a.cut); least = all })
     where
       all : (c : List ℕ) → From k i c → NotAbove (exact_sum h j (i ∷ m)) (exact_sum h j c)
+      all [] x = elim x [ ]
       all (i' ∷ c) x =
           rw x.0 (plus_mono (exact_sum h i m) (exact_sum h i c) (group_sum h i j) (a.least c (rw x.0 at x.1)))
   added k i j (inr a) = inr out
     where
       out : (c : List ℕ) → From k i c → ⊥
+      out [] x = elim x [ ]
       out (i' ∷ c) x = a c (rw x.0 at x.1)
 
   -- the last of k + 1 groups starts before t
@@ -76,21 +78,25 @@ module _ (v : List ℕ) (h : Histogram) (is : IsHistogram v h) where
   before k j zero has l b = inr out
     where
       out : (c : List ℕ) → IsCut (suc k) 0 c → ⊥
+      out [] x = elim x [ ]
       out (i ∷ c) x = omega (arith, x.0)
   before k j (suc t) has l b =
       either (last_start k t) j pos (before k j t has (le_of_lt l) b) (added k t j (has t (le_trans (le_of_lt l) b)))
     where
       pos : (c : List ℕ) → IsCut (suc k) (suc t) c → 0 < (exact_sum h j c).den
+      pos [] x = elim x [ ]
       pos (i ∷ c) x = den_pos v h is (suc k) j (i ∷ c) (le_trans x.0 l, x.1) b
 
   has_least : (k j : ℕ) → j ≤ h.n → Has (IsCut k j) j
   has_least zero zero b = inl ([], record { cut = refl; least = alone })
     where
       alone : (c : List ℕ) → IsCut 0 0 c → NotAbove (exact_sum h 0 []) (exact_sum h 0 c)
+      alone (_ ∷ _) x = elim x [ ]
       alone [] x = le_refl _
   has_least zero (suc j) b = inr out
     where
       out : (c : List ℕ) → IsCut 0 (suc j) c → ⊥
+      out (_ ∷ _) x = elim x [ ]
       out [] x = omega arith
   has_least (suc k) j b = before k j j (λ i l. has_least k i l) (le_refl j) b
 

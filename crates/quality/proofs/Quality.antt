@@ -9,7 +9,7 @@ use native.Mathlib.Nat.{le_refl, le_of_lt, mul-le-mul_right, mul-le-mul_left, mu
 use native.Mathlib.Omega.{arith}
 use lib.Dec.{lit≤}
 use lib.Pow.{pow_pos}
-use lib.Ieee.{Float, fin, binary64, up, down, lt, of_bits}
+use lib.Ieee.{Float, fin, binary64, up, down, lt, of_bits, nan, inf}
 use lib.Ieee.Fits.{down_pos}
 use lib.Ieee.Positive.{num, den, den_pos as own-den-pos}
 use Rattle.ieee.proofs.Signed.{Is, lt_true, lt_false}
@@ -28,6 +28,8 @@ use Rattle.quality.proofs.Exists.{least_of_holds}
 
 -- ---- from units to the float's own fraction
 own : (x : Float) (p n : ℕ) → Is binary64 x p n → n < p → Plain x × (num x * 2 ^ 1074 + n * den x ≡ p * den x)
+own nan p n h l = elim h [ ]
+own (inf _) p n h l = elim h [ ]
 own (fin false m e) p n h l = ((refl, refl), h)
 own (fin true m e) p n h l = absurd (never (m * up e * 2 ^ 1074) h (mul-lt-mul_of_pos_right l (down_pos e)))
   where

@@ -8,7 +8,7 @@ use Prim.Native.Nat.{ℕ, zero, suc, ◌+◌, ◌-◌, ◌*◌, ◌^◌, ◌≤�
 use native.Mathlib.Nat.{le_trans, le_of_eq, le_of_lt, zero-mul, mul-le-mul_right, add-suc}
 use native.Mathlib.Omega.{arith}
 use lib.Dec.{lit≤, lit<}
-use lib.Ieee.{Float, fin, inf, binary64, add, lt, of_bits}
+use lib.Ieee.{Float, fin, inf, binary64, add, lt, of_bits, nan}
 use Rattle.ieee.proofs.Compare.{lt_itself}
 use Rattle.ieee.proofs.Signed.{Is, NearTo, add_near, lt_true, lt_false}
 use Rattle.groups.specs.declared.Best.{Best}
@@ -25,14 +25,20 @@ use Rattle.quality.proofs.Group.{Around, squares_small, cost_around}
 -- ---- floats
 finite_less : (x : Float) (p n : ℕ) → Is binary64 x p n → lt x (inf false) ≡ true
 unfolding lt
+finite_less nan p n h = elim h [ ]
+finite_less (inf _) p n h = elim h [ ]
 finite_less (fin s m e) p n h = refl
 
 infinite_not_less : (x : Float) (p n : ℕ) → Is binary64 x p n → lt (inf false) x ≡ false
 unfolding lt
+infinite_not_less nan p n h = elim h [ ]
+infinite_not_less (inf _) p n h = elim h [ ]
 infinite_not_less (fin s m e) p n h = refl
 
 infinite_sum : (x : Float) (p n : ℕ) → Is binary64 x p n → add binary64 (inf false) x ≡ inf false
 unfolding add
+infinite_sum nan p n h = elim h [ ]
+infinite_sum (inf _) p n h = elim h [ ]
 infinite_sum (fin s m e) p n h = refl
 
 -- ---- plain arithmetic
@@ -125,6 +131,7 @@ module _ (v : List ℕ) (h : Histogram) (is : IsHistogram v h) where
       inr (record { infinite = rw none.infinite (infinite_sum (cost i j) c.P c.N c.is); none = out })
     where
       out : (c : List ℕ) → From k i c → ⊥
+      out [] x = elim x [ ]
       out (a ∷ c) x = none.none c (rw x.0 at x.1)
   tried k i j few a b (inl g) =
       let c = cost_around v h is i j a b in
@@ -153,6 +160,7 @@ module _ (v : List ℕ) (h : Histogram) (is : IsHistogram v h) where
       all : (c : Around (cost i j) (group_sum h i j) (2 ^ 1058))
           (r : NearTo binary64 (add binary64 (cost_to h k i) (cost i j)) (g.P + c.P) (g.N + c.N) (2 ^ 1059))
           (d : List ℕ) → From k i d → AtMost (2 ^ 1074) r.P r.N (exact_sum h j d) (suc k * 2 ^ 1059)
+      all c r [] x = elim x [ ]
       all c r (a ∷ d) x =
           let m = most_plus (g.most d (rw x.0 at x.1)) c.most in
           rw (x.0, ← units k (2 ^ 1058)) (most_round (2 ^ 1058) r.over m)
@@ -186,6 +194,7 @@ module _ (v : List ℕ) (h : Histogram) (is : IsHistogram v h) where
   entry zero (suc j) few l b = inr (record { infinite = refl; none = out })
     where
       out : (c : List ℕ) → IsCut 0 (suc j) c → ⊥
+      out (_ ∷ _) x = elim x [ ]
       out [] x = omega arith
   entry (suc k) j few l b =
       let e : k + (j - k) ≡ j = omega arith in

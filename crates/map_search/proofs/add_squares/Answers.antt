@@ -1,6 +1,5 @@
 use Rattle.cells.specs.Cell.{squares_of}
 use mathlib.Core.Path.{refl}
-use borrow.Author.Rules.{rules}
 use Rattle.map_search.proofs.add_squares.Goals as goal
 
 pub returns : goal.returns

@@ -1,18 +1,16 @@
 use Rattle.map_search.specs.declared.Choice.{Choice}
 use Rattle.map_search.specs.Parts.{constants_by}
-use Rattle.cells.specs.Cell.{cheapest, total_of}
+use Rattle.cells.specs.Cell.{cheapest}
 use native.Mathlib.Nat.{sub-zero}
-use borrow.Author.Rules.{rules}
-use Prim.Native.Nat.{suc, ◌+◌, ◌-◌, ◌≤◌}
+use Prim.Native.Nat.{suc, ◌+◌, ◌-◌}
 use native.Mathlib.Omega.{arith}
 use mathlib.Core.Bool.{true, false, cond}
-use mathlib.Core.Logic.{◌⊎◌, inl, inr, ⊎_elim}
+use mathlib.Core.Logic.{◌⊎◌, inl, inr}
 use lib.Ieee.{Float, lt}
 use mathlib.Core.Path.{◌≡◌, refl, sym, ap, ◌∙◌}
+use Rattle.map_search.proofs.best_const.Invariants.{total}
 use Rattle.map_search.proofs.best_const.Goals as goal
-
-abbrev total : Float → Choice → Float
-total lambda d = total_of d.cost lambda
+use Rattle.map_search.proofs.best_const.Goals.{then-total-least, else-total-least}
 
 -- the next one or the best so far, by the total that is carried along
 by_least : (lambda least t least' : Float) (best next best' : Choice) → least ≡ total lambda best → t ≡ total lambda next
@@ -45,7 +43,10 @@ loop-c-preserved c =
     let e : a.n - l.c ≡ suc (a.n - (l.c + 1)) = omega (arith, c.loop-c-test.true) in
     let kept = by_least a.lambda l.least c.total-total.result c.if-total-least.least l.best next c.if-total-least.best l.invariant.2
     c.total-total.ensures
-    (⊎_elim (λ w. inl (w.0.taken, w.1, w.2)) (λ w. inr (w.0.left, w.1, w.2)) c.if-total-least.branch) in
+    (elim c.if-total-least.branch [
+      | then-total-least w ↦ inl (w.if-total-least.true, w.best-is, w.least-is)
+      | else-total-least w ↦ inr (w.if-total-least.false, w.best-is, w.least-is)
+    ]) in
     (rw (kept.0, c.constant-next.ensures) (rw e at l.invariant.0), omega arith, kept.1)
 
 pub returns : goal.returns

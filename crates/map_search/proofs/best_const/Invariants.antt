@@ -1,15 +1,13 @@
 use Rattle.map_search.specs.declared.Choice.{Choice}
 use Rattle.map_search.specs.Parts.{constants_by}
 use Rattle.cells.specs.Cell.{cheapest, total_of}
-use native.Mathlib.Nat.{sub-zero}
-use borrow.Author.Rules.{rules}
-use Prim.Native.Nat.{suc, ◌+◌, ◌-◌, ◌≤◌}
-use native.Mathlib.Omega.{arith}
-use mathlib.Core.Bool.{true, false, cond}
-use mathlib.Core.Logic.{◌⊎◌, inl, inr, ⊎_elim}
-use lib.Ieee.{Float, lt}
-use mathlib.Core.Path.{◌≡◌, refl, sym, ap, ◌∙◌}
+use Prim.Native.Nat.{◌-◌, ◌≤◌}
+use lib.Ieee.{Float}
+use mathlib.Core.Path.{◌≡◌}
 use Rattle.map_search.proofs.best_const.Given as goal
+
+abbrev pub total : Float → Choice → Float
+total lambda d = total_of d.cost lambda
 
 abbrev pub invariant-loop-c : goal.invariant-loop-c
 invariant-loop-c l =

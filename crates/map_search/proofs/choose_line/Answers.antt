@@ -1,4 +1,3 @@
-use borrow.Author.Rules.{rules}
 use Rattle.map_search.proofs.choose_line.Goals as goal
 
 pub choose_from-requires : goal.choose_from-requires

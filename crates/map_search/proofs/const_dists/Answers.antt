@@ -1,31 +1,23 @@
 use Rattle.cells.specs.Cell.{eight}
-use Rattle.scan.specs.Scan.{place_at}
 use Rattle.map_search.specs.Lines.{dist_line}
-use borrow.Author.Rules.{rules}
 use native.Mathlib.Numerals.{add-one}
-use lib.ListN.{length}
-use Prim.Native.Nat.{ℕ, ◌-◌, ◌<◌, ◌≤◌}
+use Prim.Native.Nat.{ℕ}
 use native.Mathlib.Omega.{arith}
 use mathlib.Core.Path.{◌≡◌, refl, ap, ◌∙◌}
 use Rattle.map_search.proofs.const_dists.Goals as goal
-
-inside : (c : goal.In-loop-a) → let a = c.args in
-    place_at a.s a.l c.loop-a.a < length a.src.now
-inside c =
-    c.requires.0.inside c.args.l c.loop-a.a c.requires.1 c.loop-a-test.true
 
 pub loop-a-init : goal.loop-a-init
 unfolding dist_line
 loop-a-init c = (refl, omega arith)
 
 pub place-p-requires : goal.place-p-requires
-place-p-requires c = omega (arith, inside c, c.requires.0.small)
+place-p-requires c = omega (arith, c.requires.0.inside c.args.l c.loop-a.a c.requires.1 c.loop-a-test.true, c.requires.0.small)
 
 pub offset_bounds-src-p : goal.offset_bounds-src-p
-offset_bounds-src-p c = omega (arith, c.place-p.ensures, inside c.before, c.requires.0.small)
+offset_bounds-src-p c = omega (arith, c.place-p.ensures, c.requires.0.inside c.args.l c.loop-a.a c.requires.1 c.loop-a-test.true, c.requires.0.small)
 
 pub bounds-src-p : goal.bounds-src-p
-bounds-src-p c = omega (arith, c.place-p.ensures, inside c.before.before)
+bounds-src-p c = omega (arith, c.place-p.ensures, c.requires.0.inside c.args.l c.loop-a.a c.requires.1 c.loop-a-test.true)
 
 pub overflow_add-a : goal.overflow_add-a
 overflow_add-a c = omega (arith, c.loop-a-test.true)

@@ -1,12 +1,7 @@
 use Rattle.cells.specs.Cell.{eight}
-use Rattle.scan.specs.Scan.{place_at}
 use Rattle.map_search.specs.Lines.{dist_line}
-use borrow.Author.Rules.{rules}
-use native.Mathlib.Numerals.{add-one}
-use lib.ListN.{length}
-use Prim.Native.Nat.{ℕ, ◌-◌, ◌<◌, ◌≤◌}
-use native.Mathlib.Omega.{arith}
-use mathlib.Core.Path.{◌≡◌, refl, ap, ◌∙◌}
+use Prim.Native.Nat.{◌-◌, ◌≤◌}
+use mathlib.Core.Path.{◌≡◌}
 use Rattle.map_search.proofs.const_dists.Given as goal
 
 abbrev pub invariant-loop-a : goal.invariant-loop-a

@@ -1,7 +1,6 @@
 use native.Mathlib.Omega.{arith}
 use mathlib.Core.Path.{refl}
 use Rattle.rows.proofs.Laws.{rank_eight}
-use borrow.Author.Rules.{rules}
 use Rattle.map_search.proofs.constant.Goals as goal
 
 -- in row 0 too, so that an edit to that row is refused at the answer

@@ -1,49 +1,37 @@
-use Rattle.scan.specs.Scan.{place_at, cell_in}
+use Rattle.scan.specs.Scan.{cell_in}
 use Rattle.map_search.specs.Lines.{dist_line}
-use borrow.Author.Rules.{rules}
 use native.Mathlib.Numerals.{add-one}
-use lib.ListN.{length}
-use Prim.Native.Nat.{ℕ, ◌-◌, ◌<◌, ◌≤◌}
+use Prim.Native.Nat.{ℕ, ◌-◌}
 use native.Mathlib.Omega.{arith}
 use mathlib.Core.Path.{◌≡◌, refl, ap, ◌∙◌}
 use Rattle.map_search.proofs.copy_dist.Goals as goal
-
-inside : (c : goal.In-loop-a) → let a = c.args in
-    place_at a.s a.l c.loop-a.a < length a.src.now
-inside c =
-    c.requires.sound.0.inside c.args.l c.loop-a.a c.requires.sound.2 c.loop-a-test.true
-
-above : (c : goal.In-loop-a) → let a = c.args in
-    place_at a.s (a.l - 1) c.loop-a.a < length a.src.now
-above c =
-    c.requires.sound.0.inside (c.args.l - 1) c.loop-a.a (omega (arith, c.requires.sound.2)) c.loop-a-test.true
 
 pub loop-a-init : goal.loop-a-init
 unfolding dist_line
 loop-a-init c = (refl, omega arith)
 
 pub place-p-requires : goal.place-p-requires
-place-p-requires c = omega (arith, inside c, c.requires.sound.0.small)
+place-p-requires c = omega (arith, c.requires.sound.0.inside c.args.l c.loop-a.a c.requires.sound.2 c.loop-a-test.true, c.requires.sound.0.small)
 
 pub overflow_sub-l : goal.overflow_sub-l
 overflow_sub-l c = omega (arith, c.requires.sound.3)
 
 pub place-q-requires : goal.place-q-requires
-place-q-requires c = omega (arith, above c.before, c.requires.sound.0.small)
+place-q-requires c = omega (arith, c.requires.sound.0.inside (c.args.l - 1) c.loop-a.a (omega (arith, c.requires.sound.2)) c.loop-a-test.true, c.requires.sound.0.small)
 
 pub bounds-map-q : goal.bounds-map-q
 bounds-map-q c =
-    omega (arith, c.place-q.ensures, above c.before.before.before, c.requires.sound.1)
+    omega (arith, c.place-q.ensures, c.requires.sound.0.inside (c.args.l - 1) c.loop-a.a (omega (arith, c.requires.sound.2)) c.loop-a-test.true, c.requires.sound.1)
 
 pub overflow_cast-i : goal.overflow_cast-i
 overflow_cast-i c = omega (arith, c.requires.below c.place-q.result)
 
 pub offset_bounds-src-p : goal.offset_bounds-src-p
 offset_bounds-src-p c =
-    omega (arith, c.place-p.ensures, inside c.before.before.before, c.requires.sound.0.small)
+    omega (arith, c.place-p.ensures, c.requires.sound.0.inside c.args.l c.loop-a.a c.requires.sound.2 c.loop-a-test.true, c.requires.sound.0.small)
 
 pub bounds-src-p : goal.bounds-src-p
-bounds-src-p c = omega (arith, c.place-p.ensures, inside c.before.before.before.before)
+bounds-src-p c = omega (arith, c.place-p.ensures, c.requires.sound.0.inside c.args.l c.loop-a.a c.requires.sound.2 c.loop-a-test.true)
 
 pub offset_bounds-colors-i : goal.offset_bounds-colors-i
 offset_bounds-colors-i c =

@@ -1,11 +1,7 @@
-use Rattle.scan.specs.Scan.{place_at, cell_in}
+use Rattle.scan.specs.Scan.{cell_in}
 use Rattle.map_search.specs.Lines.{dist_line}
-use borrow.Author.Rules.{rules}
-use native.Mathlib.Numerals.{add-one}
-use lib.ListN.{length}
-use Prim.Native.Nat.{ℕ, ◌-◌, ◌<◌, ◌≤◌}
-use native.Mathlib.Omega.{arith}
-use mathlib.Core.Path.{◌≡◌, refl, ap, ◌∙◌}
+use Prim.Native.Nat.{◌-◌, ◌≤◌}
+use mathlib.Core.Path.{◌≡◌}
 use Rattle.map_search.proofs.copy_dist.Given as goal
 
 abbrev pub invariant-loop-a : goal.invariant-loop-a

@@ -1,5 +1,4 @@
 use Rattle.scan.proofs.Fill.{below_8}
-use borrow.Author.Rules.{rules}
 use Rattle.scan.proofs.Scans.{cell_inside}
 use Rattle.map_search.proofs.line_best.Goals as goal
 

@@ -1,5 +1,4 @@
 use borrow.Author.Tests.{eq-eqb, ne_eqb}
-use borrow.Author.Rules.{rules}
 use Rattle.map_search.proofs.put_best.Goals as goal
 
 pub copy_line-requires : goal.copy_line-requires

@@ -1,16 +1,9 @@
-use Prim.Native.Nat.{◌-◌, ◌<◌}
 use native.Mathlib.Omega.{arith}
-use lib.ListN.{length, length-set}
-use Rattle.scan.specs.Scan.{place_at}
+use lib.ListN.{length-set}
 use Rattle.scan.proofs.Fill.{below_set}
 use Rattle.read_map.proofs.Ranked.{cell_read}
-use Rattle.read_map.proofs.Lines.{CellsInv, cells_start, cells_fault, cells_turn, cells_end}
+use Rattle.read_map.proofs.Lines.{cells_start, cells_fault, cells_turn, cells_end}
 use Rattle.read_map.proofs.read_cells.Goals as goal
-
--- the cell at hand stands in the map
-inside : (c : goal.In-loop-a) → let a = c.args in place_at a.s a.l
-    c.loop-a.a < length a.map.now
-inside c = let p = c.requires.sound in p.0.inside _ _ p.1 c.loop-a-test.true
 
 pub loop-a-init : goal.loop-a-init
 loop-a-init c =
@@ -25,8 +18,7 @@ read_index-found-requires c =
 pub place-p-requires : goal.place-p-requires
 place-p-requires c = omega (
   arith,
-  inside
-      c.before.before.before,
+  c.requires.sound.0.inside c.args.l c.loop-a.a c.requires.sound.1 c.loop-a-test.true,
   c.requires.sound.0.small,
 )
 
@@ -34,8 +26,7 @@ pub bounds-map-p : goal.bounds-map-p
 bounds-map-p c = omega (
   arith,
   c.place-p.ensures,
-  inside
-      c.before.before.before.before,
+  c.requires.sound.0.inside c.args.l c.loop-a.a c.requires.sound.1 c.loop-a-test.true,
   c.loop-a.invariant.size,
 )
 

@@ -1,6 +1,5 @@
 use mathlib.Core.Path.{◌∙◌}
 use native.Mathlib.Omega.{arith}
-use borrow.Author.Rules.{rules}
 use Rattle.read_map.proofs.Ranked.{index_first, index_ranked}
 use Rattle.read_map.proofs.read_index.Goals as goal
 

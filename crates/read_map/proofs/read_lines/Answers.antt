@@ -1,7 +1,5 @@
-use Prim.Native.Nat.{◌-◌}
 use native.Mathlib.Omega.{arith}
-use borrow.Author.Rules.{rules}
-use Rattle.read_map.proofs.Lines.{flag_later, LinesInv, lines_start, lines_end, lines_unflagged, lines_fault, lines_turn}
+use Rattle.read_map.proofs.Lines.{flag_later, lines_start, lines_end, lines_unflagged, lines_fault, lines_turn}
 use Rattle.read_map.proofs.read_lines.Goals as goal
 
 pub loop-l-init : goal.loop-l-init

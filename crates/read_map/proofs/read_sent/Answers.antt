@@ -1,6 +1,5 @@
 use Prim.Native.Nat.{◌-◌}
 use native.Mathlib.Omega.{arith}
-use borrow.Author.Rules.{rules}
 use Rattle.scan.specs.Scan.{place_at, cell_in}
 use Rattle.scan.proofs.Fill.{fill_below}
 use Rattle.read_map.proofs.Lines.{cells_all, cells_constant, cells_copied}

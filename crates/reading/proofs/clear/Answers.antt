@@ -1,10 +1,10 @@
-use Prim.Native.Nat.{ℕ, ◌-◌}
+use Prim.Native.Nat.{ℕ}
 use mathlib.Core.Path.{◌≡◌, refl, sym, ◌∙◌}
 use native.Mathlib.Omega.{arith}
 use lib.ListN.{length, replicate}
 use borrow.Author.Rules.{rules}
 use Rattle.lists.proofs.Zeros.{zero_at, length_zeros}
-use Rattle.lists.proofs.Each.{Filled, starts, more, whole}
+use Rattle.lists.proofs.Each.{starts, more, whole}
 use Rattle.reading.proofs.clear.Goals as goal
 
 -- as many as there are bytes

@@ -1,10 +1,6 @@
-use Prim.Native.Nat.{ℕ, ◌-◌}
-use mathlib.Core.Path.{◌≡◌, refl, sym, ◌∙◌}
-use native.Mathlib.Omega.{arith}
+use Prim.Native.Nat.{◌-◌}
 use lib.ListN.{length, replicate}
-use borrow.Author.Rules.{rules}
-use Rattle.lists.proofs.Zeros.{zero_at, length_zeros}
-use Rattle.lists.proofs.Each.{Filled, starts, more, whole}
+use Rattle.lists.proofs.Each.{Filled}
 use Rattle.reading.proofs.clear.Given as goal
 
 -- the zeros so far

@@ -1,6 +1,5 @@
 use mathlib.Core.Path.{refl}
 use Rattle.reading.proofs.Answers.{copied}
-use borrow.Author.Rules.{rules}
 use Rattle.reading.proofs.deliver.Goals as goal
 
 pub returns : goal.returns

@@ -3,7 +3,6 @@ use mathlib.Core.Bool.{false}
 use mathlib.Core.List.{[]}
 use lib.Dec.{eqb}
 use lib.ListN.{length}
-use borrow.Author.Rules.{rules}
 use Rattle.accept.specs.Palette.{Palette}
 use Rattle.reading.proofs.Answers.{reads_refused, limited, settled_fault, sizes}
 use Rattle.reading.proofs.Ahead.{colors_faulty, orient_faulty, headed}

@@ -1,8 +1,6 @@
 use mathlib.Core.Path.{sym, ◌∙◌}
 use native.Mathlib.Omega.{arith}
 use lib.ListN.{length}
-use borrow.Author.Rules.{rules}
-use borrow.Author.Tests.{not-false}
 use Rattle.lists.proofs.Zeros.{length_zeros}
 use Rattle.scan.proofs.Fill.{below_8}
 use Rattle.reading.proofs.Answers.{reads_back}

@@ -1,5 +1,4 @@
 use mathlib.Core.Path.{sym, ◌∙◌}
-use borrow.Author.Rules.{rules}
 use Rattle.reading.proofs.Ahead.{orient_told, orient_plain}
 use Rattle.reading.proofs.read_orient.Goals as goal
 

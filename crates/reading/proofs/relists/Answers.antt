@@ -1,5 +1,4 @@
 use native.Mathlib.Omega.{arith}
-use borrow.Author.Rules.{rules}
 use Rattle.accept.specs.Palette.{palette_of}
 use Rattle.listing.proofs.Answers.{count_few}
 use Rattle.reading.proofs.Relisted.{relists_not, relists_same}

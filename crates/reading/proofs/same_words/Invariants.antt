@@ -1,12 +1,8 @@
-use mathlib.Core.Path.{◌≡◌, refl, sym, ap, ◌∙◌}
-use mathlib.Core.Bool.{Bool, true, false, ◌&&◌}
+use mathlib.Core.Path.{◌≡◌}
+use mathlib.Core.Bool.{◌&&◌}
 use Prim.Native.Nat.{◌-◌, ◌≤◌}
-use native.Mathlib.Omega.{arith}
-use borrow.Author.Rules.{rules}
 use lib.ListN.{take, drop}
-use lib.Seq.{length-take-le}
 use Rattle.lists.specs.Same.{same_list}
-use Rattle.lists.proofs.Same.{same_none, same_split, same_end}
 use Rattle.reading.proofs.same_words.Given as goal
 
 -- so far the same, and what is left too
