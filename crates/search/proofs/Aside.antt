@@ -1,5 +1,5 @@
 -- The best map is kept aside until it is final: what the steps of `search_in` ask, and the palette that it writes.
-use mathlib.Core.Path.{◌≡◌, refl, sym, ap, subst, ◌∙◌}
+use mathlib.Core.Path.{◌≡◌, sym, ap, subst, ◌∙◌}
 use mathlib.Core.List.{List}
 use Prim.Native.Nat.{ℕ, ◌*◌, min, ◌≤◌}
 use native.Mathlib.Omega.{arith}

@@ -11,7 +11,7 @@ use Rattle.ieee.specs.Numbers.{nat}
 use Rattle.sizes.specs.declared.Block.{Block}
 use Rattle.accept.specs.declared.Palette.{Palette}
 use Rattle.accept.specs.Answer.{refused_by}
-use Rattle.search.specs.Search.{histogram_in, found_in, search_number, palette_by, estimate_of, Searches}
+use Rattle.search.specs.Search.{histogram_in, found_in, search_number, palette_by, estimate_of}
 use Rattle.search.specs.Estimated.{estimate_in, Estimated, IsEstimated}
 use Rattle.search.proofs.Kept.{Kept}
 use Rattle.search.proofs.Finds.{finds}

@@ -3,7 +3,7 @@ use mathlib.Core.Path.{◌≡◌, refl}
 use mathlib.Core.Logic.{◌⊎◌, inl, inr}
 use mathlib.Core.Bool.{false}
 use Prim.Native.Nat.{ℕ, ◌+◌}
-use lib.Ieee.{Float, inf, fin, binary64, add, lt}
+use lib.Ieee.{Float, inf, fin, nan, binary64, add, lt}
 use Rattle.lists.proofs.Choice.{either_way}
 use Rattle.ieee.specs.Bounds.{Under}
 use Rattle.ieee.proofs.Bounds.{Rep, add_under}
@@ -15,10 +15,14 @@ Mild A x = Under x A ⊎ (x ≡ inf false)
 
 inf_add : (y : Float) (B : ℕ) → Under y B → add binary64 (inf false) y ≡ inf false
 unfolding add
+inf_add nan B u = elim u [ ]
+inf_add (inf _) B u = elim u [ ]
 inf_add (fin s m e) B u = refl
 
 inf_lt : (y : Float) (B : ℕ) → Under y B → lt (inf false) y ≡ false
 unfolding lt
+inf_lt nan B u = elim u [ ]
+inf_lt (inf _) B u = elim u [ ]
 inf_lt (fin s m e) B u = refl
 
 pub add_mild : (x y : Float) (A B : ℕ) → Mild A x → Under y B → Rep binary64 (A + B) → Mild (A + B) (add binary64 x y)

@@ -1,5 +1,5 @@
 -- Document 01, 'Sizes' and 'Numbers returned': the search of a block.
-use Rattle.std.specs.Prelude.{◌≡◌, Bool, true, false, cond, not, ◌&&◌, ◌||◌, List, [], ◌∷◌, map, ℕ, ◌*◌, max, eqb, ltb, leb, length, replicate, Float}
+use Rattle.std.specs.Prelude.{◌≡◌, Bool, true, false, cond, not, ◌||◌, List, [], ◌∷◌, map, ℕ, ◌*◌, eqb, ltb, leb, length, replicate, Float}
 use Rattle.std.specs.Float.{inf, binary32}
 use Rattle.std.specs.Float.Ieee.{add, mul, le, lt, of_bits}
 use Rattle.lists.specs.Written.{front}

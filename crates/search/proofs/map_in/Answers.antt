@@ -1,6 +1,5 @@
 use Rattle.search.proofs.Passed.{ready_of}
 use Rattle.search.proofs.Tries.{buildable, map_is}
-use borrow.Author.Rules.{rules}
 use Rattle.search.proofs.map_in.Goals as goal
 
 pub build_map-requires : goal.build_map-requires

@@ -1,6 +1,5 @@
 use Prim.Native.Nat.{ℕ}
 use lib.ListN.{length-replicate}
-use borrow.Author.Rules.{rules}
 use Rattle.search.proofs.search_levels.Goals as goal
 
 pub search_in-requires : goal.search_in-requires

@@ -1,6 +1,5 @@
 use Rattle.samples.proofs.Ranges.{costs_count}
 use Rattle.search.proofs.Passed.{ready_of}
-use borrow.Author.Rules.{rules}
 use Rattle.search.proofs.try_size.Goals as goal
 
 pub cap_of-cap-requires : goal.cap_of-cap-requires

@@ -2,7 +2,6 @@ use mathlib.Core.Path.{ap}
 use mathlib.Core.List.{map}
 use lib.Ieee.{binary32}
 use mir.Syntax.{w16}
-use borrow.Author.Rules.{rules}
 use borrow.Kind.Array.{good_length, e_int}
 use Rattle.ieee.specs.Numbers.{nat}
 use Rattle.search.proofs.Eight.{eight_places}
@@ -10,4 +9,4 @@ use Rattle.search.proofs.values.Goals as goal
 
 pub returns : goal.returns
 returns c =
-    ap (map (nat binary32)) (eight_places c.args.t1 (good_length (e_int w16) 8 c.args.t1 _ c.well_formed.0))
+    ap (map (nat binary32)) (eight_places c.args.colors (good_length (e_int w16) 8 c.args.colors _ c.well_formed.0))
