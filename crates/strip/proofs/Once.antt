@@ -2,7 +2,7 @@
 use mathlib.Core.Path.{◌≡◌, refl, sym, ap, ◌∙◌}
 use mathlib.Core.Bool.{Bool, true, false, cond}
 use mathlib.Core.List.{List, ◌++◌}
-use Prim.Native.Nat.{ℕ, zero, suc, ◌≤◌, ◌<◌}
+use Prim.Native.Nat.{ℕ, zero, suc, ◌<◌}
 use native.Mathlib.Omega.{arith}
 use lib.Dec.{eqb, leb}
 use lib.ListN.{get_or, drop}
@@ -11,8 +11,7 @@ use borrow.Author.Tests.{leb-true, leb-false}
 use Rattle.lists.specs.Counted.{up_to, total, part_of}
 use Rattle.accept.specs.declared.Palette.{Palette}
 use Rattle.accept.specs.Answer.{refused_by}
-use Rattle.strip.specs.declared.Strip.{Strip}
-use Rattle.strip.specs.Strip.{blocks_in, cells_at, lines_at, Searched, Strips}
+use Rattle.strip.specs.Strip.{blocks_in, cells_at, lines_at, Searched}
 use Rattle.strip.specs.Same.{StripsOnce}
 use Rattle.strip.proofs.Same.{searches_once}
 

@@ -1,16 +1,10 @@
 use mathlib.Core.Path.{◌≡◌, refl}
-use Prim.Native.Nat.{◌≤◌, ◌-◌}
 use native.Mathlib.Omega.{arith}
 use borrow.Author.Rules.{rules}
 use Rattle.lists.specs.Counted.{total}
 use Rattle.strip.specs.Strip.{blocks_in}
-use Rattle.strip.specs.Steps.{places_to}
 use Rattle.strip.proofs.Sides.{Within, block_within, places_more}
 use Rattle.strip.proofs.places_of.Goals as goal
-
--- the block at hand
-here : (c : goal.In-loop-i) → Within c.args.sides.now c.loop-i.i
-here c = let p = c.requires in block_within _ p.0 p.1 _ c.loop-i-test.true
 
 pub loop-i-init : goal.loop-i-init
 unfolding total
@@ -18,7 +12,8 @@ loop-i-init c = (search rules, refl)
 
 pub past-at-requires : goal.past-at-requires
 past-at-requires c =
-    let w = here c.before.before in
+    let p = c.requires in
+    let w : Within c.args.sides.now c.loop-i.i = block_within _ p.0 p.1 _ c.loop-i-test.true in
     let is = c.loop-i.invariant.1 in
     (w.width, w.height, rw is w.cells_before, rw is w.lines_before)
 

@@ -1,11 +1,7 @@
-use mathlib.Core.Path.{◌≡◌, refl}
+use mathlib.Core.Path.{◌≡◌}
 use Prim.Native.Nat.{◌≤◌, ◌-◌}
-use native.Mathlib.Omega.{arith}
-use borrow.Author.Rules.{rules}
-use Rattle.lists.specs.Counted.{total}
 use Rattle.strip.specs.Strip.{blocks_in}
 use Rattle.strip.specs.Steps.{places_to}
-use Rattle.strip.proofs.Sides.{Within, block_within, places_more}
 use Rattle.strip.proofs.places_of.Given as goal
 
 abbrev pub invariant-loop-i : goal.invariant-loop-i

@@ -1,6 +1,5 @@
 use mathlib.Core.Path.{sym, ◌∙◌}
 use borrow.Author.Tests.{eq-eqb, ne_eqb}
-use borrow.Author.Rules.{rules}
 use Rattle.strip.proofs.Turn.{nothing}
 use Rattle.strip.proofs.search_strip.Goals as goal
 

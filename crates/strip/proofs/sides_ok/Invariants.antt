@@ -1,13 +1,8 @@
 use Rattle.lists.specs.Counted.{within, all_in}
-use lib.Seq.{drop-cons}
-use lib.ListN.{length, get_or, drop, drop_of_length-le}
-use borrow.Author.Rules.{rules}
-use native.Mathlib.Omega.{arith}
-use native.Mathlib.Numerals.{add-one}
-use Prim.Native.Nat.{◌≤◌, ◌+◌, ◌-◌}
-use mathlib.Core.List.{[], ◌∷◌}
-use mathlib.Core.Bool.{◌&&◌, and_assoc, and-true}
-use mathlib.Core.Path.{◌≡◌, refl, sym, ◌∙◌}
+use lib.ListN.{length, drop}
+use Prim.Native.Nat.{◌≤◌, ◌-◌}
+use mathlib.Core.Bool.{◌&&◌}
+use mathlib.Core.Path.{◌≡◌}
 use Rattle.strip.proofs.sides_ok.Given as goal
 
 abbrev pub invariant-loop-i : goal.invariant-loop-i

@@ -1,27 +1,25 @@
-use borrow.Author.Rules.{rules}
 use borrow.Author.Tests.{le-leb, lt-leb}
-use mathlib.Core.Path.{sym}
+use mathlib.Core.Path.{sym, ◌∙◌}
 use Rattle.accept.specs.Accepted.{depth_ok, cache_ok}
 use Rattle.text.specs.Text.{header_fault}
-use Rattle.lists.proofs.Choice.{fails, holds}
 use Rattle.text.proofs.header_fault.Goals as goal
 
 pub returns-then-not-sides_ok : goal.returns-then-not-sides_ok
 unfolding header_fault depth_ok
-returns-then-not-sides_ok c = sym (simp (fails _ _ c.sides_ok.ensures c.if-not-sides_ok.true))
+returns-then-not-sides_ok c = sym (simp (sym c.sides_ok.ensures ∙ c.if-not-sides_ok.true))
 
 pub returns-then-not-within : goal.returns-then-not-within
 unfolding header_fault depth_ok
-returns-then-not-within c = sym (simp (holds _ _ c.sides_ok.ensures c.if-not-sides_ok.false, fails _ _ c.within.ensures c.if-not-within.true))
+returns-then-not-within c = sym (simp (sym c.sides_ok.ensures ∙ c.if-not-sides_ok.false, sym c.within.ensures ∙ c.if-not-within.true))
 
 pub returns-then-not-within-2 : goal.returns-then-not-within-2
 unfolding header_fault depth_ok
 returns-then-not-within-2 c =
     sym
     (simp (
-      holds _ _ c.sides_ok.ensures c.if-not-sides_ok.false,
-      holds _ _ c.within.ensures c.if-not-within.false,
-      fails _ _ c.within-2.ensures c.if-not-within-2.true,
+      sym c.sides_ok.ensures ∙ c.if-not-sides_ok.false,
+      sym c.within.ensures ∙ c.if-not-within.false,
+      sym c.within-2.ensures ∙ c.if-not-within-2.true,
     ))
 
 pub returns-then-not-orient_ok : goal.returns-then-not-orient_ok
@@ -29,10 +27,10 @@ unfolding header_fault depth_ok
 returns-then-not-orient_ok c =
     sym
     (simp (
-      holds _ _ c.sides_ok.ensures c.if-not-sides_ok.false,
-      holds _ _ c.within.ensures c.if-not-within.false,
-      holds _ _ c.within-2.ensures c.if-not-within-2.false,
-      fails _ _ c.orient_ok.ensures c.if-not-orient_ok.true,
+      sym c.sides_ok.ensures ∙ c.if-not-sides_ok.false,
+      sym c.within.ensures ∙ c.if-not-within.false,
+      sym c.within-2.ensures ∙ c.if-not-within-2.false,
+      sym c.orient_ok.ensures ∙ c.if-not-orient_ok.true,
     ))
 
 pub returns-then-h-gt64 : goal.returns-then-h-gt64
@@ -40,10 +38,10 @@ unfolding header_fault depth_ok cache_ok
 returns-then-h-gt64 c =
     sym
     (simp (
-      holds _ _ c.sides_ok.ensures c.if-not-sides_ok.false,
-      holds _ _ c.within.ensures c.if-not-within.false,
-      holds _ _ c.within-2.ensures c.if-not-within-2.false,
-      holds _ _ c.orient_ok.ensures c.if-not-orient_ok.false,
+      sym c.sides_ok.ensures ∙ c.if-not-sides_ok.false,
+      sym c.within.ensures ∙ c.if-not-within.false,
+      sym c.within-2.ensures ∙ c.if-not-within-2.false,
+      sym c.orient_ok.ensures ∙ c.if-not-orient_ok.false,
       lt-leb _ _ c.if-h-gt64.true,
     ))
 
@@ -52,9 +50,9 @@ unfolding header_fault depth_ok cache_ok
 returns c =
     sym
     (simp (
-      holds _ _ c.sides_ok.ensures c.if-not-sides_ok.false,
-      holds _ _ c.within.ensures c.if-not-within.false,
-      holds _ _ c.within-2.ensures c.if-not-within-2.false,
-      holds _ _ c.orient_ok.ensures c.if-not-orient_ok.false,
+      sym c.sides_ok.ensures ∙ c.if-not-sides_ok.false,
+      sym c.within.ensures ∙ c.if-not-within.false,
+      sym c.within-2.ensures ∙ c.if-not-within-2.false,
+      sym c.orient_ok.ensures ∙ c.if-not-orient_ok.false,
       le-leb _ _ c.if-h-gt64.false,
     ))

@@ -1,4 +1,3 @@
-use borrow.Author.Rules.{rules}
 use mathlib.Core.Path.{refl}
 use Rattle.text.specs.Text.{is_body}
 use Rattle.text.proofs.is_body.Goals as goal

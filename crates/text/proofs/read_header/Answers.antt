@@ -1,4 +1,3 @@
-use borrow.Author.Rules.{rules}
 use mathlib.Core.Path.{refl}
 use Rattle.text.specs.Text.{header_at}
 use Rattle.text.proofs.read_header.Goals as goal
