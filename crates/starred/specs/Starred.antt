@@ -1,6 +1,6 @@
 -- Document 01, 'Worked blocks' and 'Listing program': those with a star, and document 02's widths (L4), as one claim on the
 -- definitions. Assumes nothing.
-use Rattle.std.specs.Prelude.{ℕ, ◌+◌, ◌/◌, ◌%◌, ◌≡◌, refl, false, cond, eqb, List, [], ◌∷◌, ◌++◌, map, replicate, Float}
+use Rattle.std.specs.Prelude.{ℕ, ◌/◌, ◌%◌, ◌≡◌, refl, false, cond, eqb, List, [], ◌∷◌, ◌++◌, map, replicate, Float}
 use Rattle.std.proofs.Common.{ap, ◌∙◌}
 use Rattle.lists.specs.Counted.{bit, up_to, elem, all_below, all_in, above, ascending}
 use Rattle.counts.specs.Counts.{least_bits, ceil_log2, uniform_bits}

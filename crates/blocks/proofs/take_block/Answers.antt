@@ -1,5 +1,4 @@
 use native.Mathlib.Omega.{arith}
-use borrow.Author.Rules.{rules}
 use mathlib.Core.Path.{sym, ap, ◌∙◌}
 use lib.Seq.{length-take-le}
 use Rattle.text.specs.declared.Places.{Places}
@@ -35,12 +34,11 @@ pub returns : goal.returns
 returns c =
     let start = c.args in
     let h = c.read_palette-h in
-    let put = h.ensures.1 in
     let lines = c.lines_in-lines in
     let cells = c.cells_in-cells in
     let end = ap (λ (x : Places). x.end) c.places_of-p.ensures.value in
     let l = c.list_block.ensures in
     let b = block_read start.s.now h.result h.ensures.value.0 c.if-h-ne0.false h.ensures.value.1 _ _ _ _ _ _ _ _ lines.result cells.result
-    (omega arith, omega arith, omega arith, omega arith) put.0 put.1.0 put.1.1.0 put.1.1.1 lines.ensures.0 cells.ensures.0
+    (omega arith, omega arith, omega arith, omega arith) h.ensures.colors_after h.ensures.cache_after h.ensures.flags_after h.ensures.map_after lines.ensures.0 cells.ensures.0
     _ end _ l.value start.words.now _ l.words_after in
     record { value = with_few start.s.now _ b.0; words_after = b.1 }

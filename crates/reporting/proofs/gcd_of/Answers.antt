@@ -1,9 +1,7 @@
 use Rattle.reporting.proofs.Lowest.{gcd_next, gcd_end}
-use Rattle.reporting.specs.Fraction.{gcd}
-use borrow.Author.Rules.{rules}
 use native.Mathlib.Nat.{mod-lt}
 use native.Mathlib.Omega.{arith}
-use mathlib.Core.Path.{◌≡◌, refl, sym, ◌∙◌}
+use mathlib.Core.Path.{refl, sym, ◌∙◌}
 use Rattle.reporting.proofs.gcd_of.Goals as goal
 
 pub loop-y-init : goal.loop-y-init

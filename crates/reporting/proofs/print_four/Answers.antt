@@ -1,7 +1,6 @@
 use Rattle.printing.proofs.Laws.{piece_then}
 use native.Mathlib.Omega.{arith}
 use mathlib.Core.Path.{◌∙◌}
-use borrow.Author.Rules.{rules}
 use Rattle.reporting.proofs.print_four.Goals as goal
 
 pub returns : goal.returns

@@ -1,5 +1,4 @@
 use native.Mathlib.Omega.{arith}
-use borrow.Author.Rules.{rules}
 use Rattle.reporting.proofs.Lines.{step_empty, length_last}
 use Rattle.reporting.proofs.step.Goals as goal
 

@@ -1,5 +1,4 @@
 use native.Mathlib.Omega.{arith}
-use borrow.Author.Rules.{rules}
 use Rattle.reporting.proofs.Lines.{step_ended, step_going, length_last}
 use Rattle.reporting.proofs.Stream.{block_fits}
 use Rattle.reporting.proofs.step_block.Goals as goal

@@ -1,5 +1,4 @@
 use native.Mathlib.Omega.{arith}
-use borrow.Author.Rules.{rules}
 use mathlib.Core.Path.{sym, ap, ◌∙◌}
 use mathlib.Core.List.{List}
 use Prim.Native.Nat.{ℕ, ◌+◌, ◌*◌, ◌≤◌}
@@ -13,7 +12,7 @@ pub returns-then-number-ne0 : goal.returns-then-number-ne0
 returns-then-number-ne0 c =
     let b = c.take_block-b in
     let start = c.args in
-    let e = answer_refused start.s.now b.result b.ensures.value.0 _ c.number_of.ensures c.if-number-ne0.true in
+    let e = answer_refused start.s.now b.result b.ensures.value.0 _ c.number_of-number.ensures c.if-number-ne0.true in
     let p = c.print_refused.ensures in
     record { value = omega (arith, p.value, ap length e); out_after = p.out_after ∙ ap (λ (x : List ℕ). written start.out.now 0 x) e }
 
@@ -35,6 +34,6 @@ returns c =
     let b = c.take_block-b in
     let start = c.args in
     let zero = c.if-number-ne0.false in
-    let e = answer_listed start.s.now b.result b.ensures.value.0 _ c.number_of.ensures _ _ b.ensures.words_after zero in
+    let e = answer_listed start.s.now b.result b.ensures.value.0 _ c.number_of-number.ensures _ _ b.ensures.words_after zero in
     let p = c.print_listed.ensures in
     record { value = omega (arith, p.value, ap length e); out_after = p.out_after ∙ ap (λ (x : List ℕ). written start.out.now 0 x) e }

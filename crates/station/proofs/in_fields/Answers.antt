@@ -5,8 +5,7 @@ use mir.Syntax.{w16}
 use borrow.Kind.Array.{good_length, e_int}
 use Rattle.lists.specs.Counted.{bit}
 use Rattle.search.proofs.Eight.{eight_places}
-use borrow.Author.Rules.{rules}
 use Rattle.station.proofs.in_fields.Goals as goal
 
 pub returns : goal.returns
-returns c = ap (λ (xs : List ℕ). c.args.n ∷ (xs ++ (bit c.args.transposed ∷ []))) (eight_places c.args.t2 (good_length (e_int w16) 8 c.args.t2 _ c.well_formed.1.0))
+returns c = ap (λ (xs : List ℕ). c.args.n ∷ (xs ++ (bit c.args.transposed ∷ []))) (eight_places c.args.colors (good_length (e_int w16) 8 c.args.colors _ c.well_formed.1.0))

@@ -1,13 +1,12 @@
 use mathlib.Core.Path.{refl, subst}
-use Prim.Native.Nat.{◌≤◌, ◌<◌, ◌-◌}
+use Prim.Native.Nat.{◌≤◌, ◌<◌}
 use native.Mathlib.Omega.{arith}
 use lib.ListN.{length, length-set}
 use borrow.Author.Rules.{rules}
 use Rattle.lists.proofs.Each.{any}
 use Rattle.accept.specs.declared.Palette.{Palette}
 use Rattle.accept.specs.Answer.{refused_by}
-use Rattle.station.specs.Strip.{row_at}
-use Rattle.station.proofs.Rows.{ten_places, Begun, begins, turn, ends}
+use Rattle.station.proofs.Rows.{ten_places, begins, turn, ends}
 use Rattle.station.proofs.in_rows.Goals as goal
 
 pub loop-i-init : goal.loop-i-init
@@ -16,7 +15,7 @@ loop-i-init c = begins 11 _ _ refl
 pub in_fields-fields-requires : goal.in_fields-fields-requires
 in_fields-fields-requires c =
     let l = c.loop-i in
-    let a = c.args.t1 in
+    let a = c.args.answers in
     let inside : l.i < length a = search rules in
     subst (λ (p : Palette). p.n ≤ 8) (any a l.i (refused_by 0) _ inside)
     (c.requires l.i)
@@ -49,7 +48,7 @@ loop-i-smaller c = omega (arith, c.loop-i-test.true)
 pub loop-i-preserved : goal.loop-i-preserved
 loop-i-preserved c =
     let l = c.loop-i in
-    let a = c.args.t1 in
+    let a = c.args.answers in
     let r = c.in_fields-fields in
     let inside : l.i < length a = search rules in
     turn a l.rows l.i l.invariant c.loop-i-test.true _ (any a l.i _ (refused_by 0) inside)

@@ -1,6 +1,5 @@
 use mir.Syntax.{w8}
 use borrow.Kind.Array.{good_length, e_int}
-use borrow.Author.Rules.{rules}
 use mathlib.Core.List.{◌∷◌}
 use mathlib.Core.Path.{◌≡◌, ◌∙◌}
 use lib.ListN.{replicate}

@@ -4,7 +4,6 @@ use native.Mathlib.Omega.{arith}
 use Prim.Native.Nat.{◌<◌}
 use Rattle.station.specs.Context.{context_words}
 use mathlib.Core.Path.{ap, ◌∙◌}
-use borrow.Author.Rules.{rules}
 use Rattle.station.proofs.palette_context.Goals as goal
 
 pub overflow_cast-found : goal.overflow_cast-found

@@ -1,7 +1,6 @@
 use Rattle.listing.proofs.Answers.{count_few}
 use native.Mathlib.Omega.{arith}
 use mathlib.Core.Path.{refl}
-use borrow.Author.Rules.{rules}
 use Rattle.station.proofs.palette_list.Goals as goal
 
 pub overflow_cast-listed : goal.overflow_cast-listed

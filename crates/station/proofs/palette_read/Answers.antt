@@ -2,7 +2,6 @@ use mathlib.Core.Path.{ap, ◌∙◌}
 use Rattle.accept.specs.declared.Palette.{Palette}
 use Rattle.reading.proofs.Few.{few_read}
 use Rattle.station.specs.Searched.{fields_of}
-use borrow.Author.Rules.{rules}
 use Rattle.station.proofs.palette_read.Goals as goal
 
 pub in_fields-requires : goal.in_fields-requires

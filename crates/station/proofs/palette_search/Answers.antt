@@ -2,7 +2,6 @@ use mathlib.Core.Path.{ap, ◌∙◌}
 use Rattle.accept.specs.declared.Palette.{Palette}
 use Rattle.search.proofs.Answer.{few_colors}
 use Rattle.station.specs.Searched.{fields_of, bits_of}
-use borrow.Author.Rules.{rules}
 use Rattle.station.proofs.palette_search.Goals as goal
 
 pub in_fields-requires : goal.in_fields-requires

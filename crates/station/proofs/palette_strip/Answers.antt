@@ -1,4 +1,3 @@
-use borrow.Author.Rules.{rules}
 use Rattle.station.proofs.Rows.{answers_few}
 use Rattle.station.proofs.palette_strip.Goals as goal
 
