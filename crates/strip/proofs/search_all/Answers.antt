@@ -38,7 +38,7 @@ search_at-requires-clause-fits c =
     let a = c.args in
     let l = c.loop-i in
     rw l.invariant.4
-    (here a.sides.now _ _ _ c.requires a.bd a.lambda l.i _ _ c.loop-i-test.true l.invariant.1 l.invariant.2)
+    (here a.sides.now _ _ _ c.requires a.bd a.lambda l.i _ _ (omega (arith, c.loop-i-test.true)) l.invariant.1 l.invariant.2)
 
 pub offset_bounds-answers-i : goal.offset_bounds-answers-i
 offset_bounds-answers-i c = omega (arith, most c.args.sides.now _ _ _ c.requires)
@@ -50,7 +50,7 @@ pub past-at-requires : goal.past-at-requires
 past-at-requires c =
     let a = c.args in
     let l = c.loop-i in
-    let f = here a.sides.now _ _ _ c.requires a.bd a.lambda l.i _ _ c.loop-i-test.true l.invariant.1 l.invariant.2 in
+    let f = here a.sides.now _ _ _ c.requires a.bd a.lambda l.i _ _ (omega (arith, c.loop-i-test.true)) l.invariant.1 l.invariant.2 in
     let is = l.invariant.4 in
     (f.width, f.height, rw is f.cells_before, rw is f.lines_before)
 
@@ -58,7 +58,7 @@ pub loop-i-preserved : goal.loop-i-preserved
 loop-i-preserved c =
     let a = c.args in
     let l = c.loop-i in
-    let f = here a.sides.now _ _ _ c.requires a.bd a.lambda l.i _ _ c.loop-i-test.true l.invariant.1 l.invariant.2 in
+    let f = here a.sides.now _ _ _ c.requires a.bd a.lambda l.i _ _ (omega (arith, c.loop-i-test.true)) l.invariant.1 l.invariant.2 in
     let found = c.search_at in
     let inside : l.i < length l.answers =
     omega (arith, most a.sides.now _ _ _ c.requires, l.invariant.3, c.loop-i-test.true) in (
