@@ -32,14 +32,26 @@ cache_few (e ∷ es) (c ∷ cs) = omega (arith, cache_few es (remove e (c ∷ cs
 colors_few : (bd : ℕ) (cache cs : List ℕ) → length (color_words bd cache cs) ≤ length cache + length cs + 2
 unfolding color_words
 colors_few bd cache cs =
-    omega (arith, length-append (cache_words cache cs) (literal_words bd (untaken cache cs)), cache_few cache cs, length_literals bd (untaken cache cs), untaken_few cache cs)
+    omega (
+      arith,
+      length-append (cache_words cache cs) (literal_words bd (untaken cache cs)),
+      cache_few cache cs,
+      length_literals bd (untaken cache cs),
+      untaken_few cache cs,
+    )
 
 -- each line has a flag, and no more cells than places
 lines_few : (n : ℕ) (t : Bool) (flags map : List ℕ) (w len l : ℕ) → 1 ≤ len → length (up_to (line_words n t flags map w len) l) ≤ l * (len + 1)
 unfolding up_to
 lines_few n t flags map w len zero h = omega arith
 lines_few n t flags map w len (suc l) h =
-    omega (arith, lines_few n t flags map w len l h, length-append (up_to (line_words n t flags map w len) l) (line_words n t flags map w len l), line_length n t flags map w len l, sent_few (get_or flags l 0) len h)
+    omega (
+      arith,
+      lines_few n t flags map w len l h,
+      length-append (up_to (line_words n t flags map w len) l) (line_words n t flags map w len l),
+      line_length n t flags map w len l,
+      sent_few (get_or flags l 0) len h,
+    )
 
 -- lines and their length within a side
 area : (t : Bool) (w h side : ℕ) → w ≤ side → h ≤ side → lines_of t w h * (length_of t w h + 1) ≤ side * (side + 1)
@@ -58,7 +70,12 @@ map_few n t flags map w h a b c d =
     let go : (x : Bool) → ltb w 64 && ltb h 64 ≡ x → length (cond x (bypass 1 (bit t) ∷ []) [] ++ lines) ≤ 4160 =
     elim [
       | true ↦ λ e.
-          omega (arith, most, area t w h 63 (omega (arith, ltb-true w 64 (and_l (ltb w 64) (ltb h 64) e))) (omega (arith, ltb-true h 64 (and_r (ltb w 64) (ltb h 64) e))))
+          omega (
+            arith,
+            most,
+            area t w h 63 (omega (arith, ltb-true w 64 (and_l (ltb w 64) (ltb h 64) e)))
+                (omega (arith, ltb-true h 64 (and_r (ltb w 64) (ltb h 64) e))),
+          )
       | false ↦ λ e. omega (arith, most, area t w h 64 b d)
     ] in
     go (ltb w 64 && ltb h 64) refl

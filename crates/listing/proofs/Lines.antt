@@ -65,7 +65,8 @@ module _ (t : Bool) (w lines len n : ℕ) (fs fs' m m' : List ℕ) (p : Fits t w
       cell_tells 5 by_three w m m' n (row_at t l a) (col_at t l a) (p.index l a g h) (q.index l a g h) (agree t w len m m' l a h s r) e
 
   cells : (f l : ℕ) → 0 < len → l < lines → line_ok f (line_cell t m w) len l ≡ true → line_ok f (line_cell t m' w) len l ≡ true
-      → Seen t w len m m' l → Splits (up_to (λ a. word_at m l a ∷ []) (sent_cells f len)) (up_to (λ a. word_at m' l a ∷ []) (sent_cells f len)) (Row t w m m' l len)
+      → Seen t w len m m' l → Splits (up_to (λ a. word_at m l a ∷ []) (sent_cells f len)) (up_to (λ a. word_at m' l a ∷ []) (sent_cells f len))
+      (Row t w m m' l len)
   unfolding up_to sent_cells line_ok
   cells zero l z g u v s =
       loop _ _ (Row t w m m' l) len (λ j h. absurd (omega arith))

@@ -63,5 +63,9 @@ worked =
     ∷ []
 
 pub worked_hold : map (λ r. r.0) worked ≡ map (λ r. r.1) worked
-unfolding worked given lines bytes answer shown text_number header_at header_fault places_of is_body cache_at palette_at is_digit column columns field_at is_line line_numbers are_rows row_numbers digits field line call_line call_lines listed refused sides_ok depth_ok colors_ok orient_ok cache_ok counts_ok line_ok map_ok refusal levels_ok all_in all_below above ascending line_cell word call_list color_words cache_words untaken remove literal_words more_words step_words step_bits cut_bits largest_step least_bits ceil_log2 map_words orient_words up_to line_words row_context sent_cells ranked_word cell_word cell around by_three choose rank_of order_of place others elem
+unfolding worked given lines bytes answer shown text_number header_at header_fault places_of is_body cache_at palette_at is_digit column columns
+    field_at is_line line_numbers are_rows row_numbers digits field line call_line call_lines listed refused sides_ok depth_ok colors_ok orient_ok
+    cache_ok counts_ok line_ok map_ok refusal levels_ok all_in all_below above ascending line_cell word call_list color_words cache_words untaken
+    remove literal_words more_words step_words step_bits cut_bits largest_step least_bits ceil_log2 map_words orient_words up_to line_words
+    row_context sent_cells ranked_word cell_word cell around by_three choose rank_of order_of place others elem
 worked_hold = refl

@@ -39,24 +39,28 @@ top_level-top-requires c = c.requires.2
 
 pub returns-then-top-last : goal.returns-then-top-last
 returns-then-top-last c =
-    sym (first _ _ c.args.colors (room _ c.args.colors _ c.well_formed.0 c.requires.1) c.requires.0 ∙ rw (lt-leb _ _ (rw c.top_level-top.ensures at c.if-top-last.true)) refl)
+    sym (first _ _ c.args.colors (room _ c.args.colors _ c.well_formed.0 c.requires.1) c.requires.0
+    ∙ rw (lt-leb _ _ (rw c.top_level-top.ensures at c.if-top-last.true)) refl)
 
 pub loop-i-init : goal.loop-i-init
 loop-i-init c = (
   search rules,
   search rules,
-  sym (first _ _ c.args.colors (room _ c.args.colors _ c.well_formed.0 c.requires.1) c.requires.0 ∙ rw (le-leb _ _ (rw c.top_level-top.ensures at c.if-top-last.false)) refl),
+  sym (first _ _ c.args.colors (room _ c.args.colors _ c.well_formed.0 c.requires.1) c.requires.0
+      ∙ rw (le-leb _ _ (rw c.top_level-top.ensures at c.if-top-last.false)) refl),
 )
 
 pub returns-then-not-between : goal.returns-then-not-between
 returns-then-not-between c =
-    let next_one = following c.args.n c.args.bd c.args.colors (room _ c.args.colors _ c.well_formed.0 c.requires.1) c.loop-i.last.0 c.loop-i.i c.between.result c.loop-i-test.true
+    let next_one = following c.args.n c.args.bd c.args.colors (room _ c.args.colors _ c.well_formed.0 c.requires.1) c.loop-i.last.0 c.loop-i.i
+    c.between.result c.loop-i-test.true
     (rw c.top_level-top.ensures at c.between.ensures) in
     rw (next_one, c.if-not-between.true) at c.loop-i.invariant.2
 
 pub loop-i-preserved : goal.loop-i-preserved
 loop-i-preserved c =
-    let next_one = following c.args.n c.args.bd c.args.colors (room _ c.args.colors _ c.well_formed.0 c.requires.1) c.loop-i.last.0 c.loop-i.i c.between.result c.loop-i-test.true
+    let next_one = following c.args.n c.args.bd c.args.colors (room _ c.args.colors _ c.well_formed.0 c.requires.1) c.loop-i.last.0 c.loop-i.i
+    c.between.result c.loop-i-test.true
     (rw c.top_level-top.ensures at c.between.ensures) in (
       search rules,
       search rules,

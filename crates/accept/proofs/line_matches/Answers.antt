@@ -31,13 +31,15 @@ unfolding all_below
 loop-a-init c = (search rules, refl)
 
 pub index_at-here-requires : goal.index_at-here-requires
-index_at-here-requires c = placed c.args.transposed c.args.width c.args.height _ _ _ _ c.requires.map_len c.length_of-len.ensures c.requires.l_bound.0 c.loop-a-test.true
+index_at-here-requires c = placed c.args.transposed c.args.width c.args.height _ _ _ _ c.requires.map_len c.length_of-len.ensures c.requires.l_bound.0
+    c.loop-a-test.true
 
 pub overflow_mul-a : goal.overflow_mul-a
 overflow_mul-a c = omega (arith, short _ c.args.step _ c.loop-a-test.true c.requires.l_bound.2)
 
 pub index_at-there-requires : goal.index_at-there-requires
-index_at-there-requires c = placed c.args.transposed c.args.width c.args.height _ _ _ _ c.requires.map_len c.length_of-len.ensures c.requires.l_bound.1 (short _ c.args.step _ c.loop-a-test.true c.requires.l_bound.2)
+index_at-there-requires c = placed c.args.transposed c.args.width c.args.height _ _ _ _ c.requires.map_len c.length_of-len.ensures
+    c.requires.l_bound.1 (short _ c.args.step _ c.loop-a-test.true c.requires.l_bound.2)
 
 pub loop-a-preserved : goal.loop-a-preserved
 loop-a-preserved c =

@@ -9,7 +9,11 @@ pub returns-then-l-ne0 : goal.returns-then-l-ne0
 returns-then-l-ne0 c =
     let l = c.list-l in
     let room = c.requires.1 in
-    let e = c.refuse.ensures in record { value = e ∙ list_refused c.args.taken _ _ _ _ _ _ _ _ room l.ensures c.if-l-ne0.true; words_after = list_words c.args.taken _ _ _ _ _ _ _ _ room l.ensures _ (ap (λ (b : Block). b.number) e) }
+    let e = c.refuse.ensures in record {
+      value = e ∙ list_refused c.args.taken _ _ _ _ _ _ _ _ room l.ensures c.if-l-ne0.true;
+      words_after =
+          list_words c.args.taken _ _ _ _ _ _ _ _ room l.ensures _ (ap (λ (b : Block). b.number) e);
+    }
 
 pub overflow_cast-result : goal.overflow_cast-result
 overflow_cast-result c = omega (arith, count_few _ _ _ _ _ _ _ _ c.list-l.ensures)
@@ -18,4 +22,8 @@ pub returns : goal.returns
 returns c =
     let l = c.list-l in
     let room = c.requires.1 in
-    let z = c.if-l-ne0.false in record { value = list_whole c.args.taken _ _ _ _ _ _ _ _ room l.ensures z _ c.cells_in.ensures.0; words_after = list_words c.args.taken _ _ _ _ _ _ _ _ room l.ensures 0 (sym z) }
+    let z = c.if-l-ne0.false in record {
+      value = list_whole c.args.taken _ _ _ _ _ _ _ _ room l.ensures z _ c.cells_in.ensures.0;
+      words_after =
+          list_words c.args.taken _ _ _ _ _ _ _ _ room l.ensures 0 (sym z);
+    }

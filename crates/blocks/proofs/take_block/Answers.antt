@@ -13,7 +13,11 @@ returns-then-h-ne0 c =
     let start = c.args in
     let h = c.read_palette-h in
     let e = c.refuse.ensures in
-    let n = c.if-h-ne0.true in record { value = with_few start.s.now _ (e ∙ block_refused start.s.now h.result h.ensures.value.0 n); words_after = untouched c.refuse.result.number _ start.words.now (λ z. n (sym (ap (λ (b : Block). b.number) e) ∙ z)) }
+    let n = c.if-h-ne0.true in record {
+      value = with_few start.s.now _ (e ∙ block_refused start.s.now h.result h.ensures.value.0 n);
+      words_after =
+          untouched c.refuse.result.number _ start.words.now (λ z. n (sym (ap (λ (b : Block). b.number) e) ∙ z));
+    }
 
 pub slice_bounds-list_block-end : goal.slice_bounds-list_block-end
 slice_bounds-list_block-end c =
@@ -39,6 +43,7 @@ returns c =
     let end = ap (λ (x : Places). x.end) c.places_of-p.ensures.value in
     let l = c.list_block.ensures in
     let b = block_read start.s.now h.result h.ensures.value.0 c.if-h-ne0.false h.ensures.value.1 _ _ _ _ _ _ _ _ lines.result cells.result
-    (omega arith, omega arith, omega arith, omega arith) h.ensures.colors_after h.ensures.cache_after h.ensures.flags_after h.ensures.map_after lines.ensures.0 cells.ensures.0
+    (omega arith, omega arith, omega arith, omega arith) h.ensures.colors_after h.ensures.cache_after h.ensures.flags_after h.ensures.map_after
+    lines.ensures.0 cells.ensures.0
     _ end _ l.value start.words.now _ l.words_after in
     record { value = with_few start.s.now _ b.0; words_after = b.1 }

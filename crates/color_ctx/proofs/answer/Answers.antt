@@ -29,8 +29,10 @@ pub loop-i-preserved : goal.loop-i-preserved
 loop-i-preserved c =
     let n = (start c.before.before.before.before.before.before).args.n in
     let inside : c.loop-i.i < n = c.loop-i-test.true in
-    let order = order_turn _ n (known c.before.before.before.before.before.before).0 (start c.before.before.before.before.before.before).requires.3 c.loop-i.i _ inside c.index_at-index.ensures in
-    let ranks = ranks_turn _ n (known c.before.before.before.before.before.before).0 (start c.before.before.before.before.before.before).requires.3 c.loop-i.i _ inside c.rank_at-rank.ensures in
+    let order = order_turn _ n (known c.before.before.before.before.before.before).0 (start c.before.before.before.before.before.before).requires.3
+    c.loop-i.i _ inside c.index_at-index.ensures in
+    let ranks = ranks_turn _ n (known c.before.before.before.before.before.before).0 (start c.before.before.before.before.before.before).requires.3
+    c.loop-i.i _ inside c.rank_at-rank.ensures in
     (omega arith, rw c.loop-i.invariant.1 order, rw c.loop-i.invariant.2 ranks)
 
 pub returns : goal.returns

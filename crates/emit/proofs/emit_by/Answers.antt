@@ -35,7 +35,15 @@ emit_lines-requires c =
     let o = c.emit_orientation-next in
     let g : o.result + length (lines a.n a.transposed a.flags.now a.map.now a.w a.h) ≤ length o.new.out =
     omega (arith, sum a.n a.transposed a.flags.now a.map.now a.w a.h, c.requires.h_in_bounds, o.ensures.value, o.auto.out) in
-    rw (c.length_of-len.ensures, c.lines_of-lines.ensures) (record { lines_inside = (c.requires.lines_inside.0, c.requires.in_bounds.0, c.requires.in_bounds.1, c.requires.lines_inside.1); lines_in_bounds = g })
+    rw (c.length_of-len.ensures, c.lines_of-lines.ensures) (record {
+      lines_inside = (
+        c.requires.lines_inside.0,
+        c.requires.in_bounds.0,
+        c.requires.in_bounds.1,
+        c.requires.lines_inside.1,
+      );
+      lines_in_bounds = g;
+    })
 
 pub returns : goal.returns
 returns c =

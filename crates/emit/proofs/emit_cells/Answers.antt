@@ -18,7 +18,10 @@ line_word-requires c =
     let i = c.requires.lines_inside.0 in
     let a = c.loop-a.a in
     let l = c.args.l in
-    record { le_n = (i.two, i.eight, i.column l a (omega arith) (omega arith), i.place l a (omega arith) (omega arith), c.requires.lines_inside.1); by_index = i.below }
+    record {
+      le_n = (i.two, i.eight, i.column l a (omega arith) (omega arith), i.place l a (omega arith) (omega arith), c.requires.lines_inside.1);
+      by_index = i.below;
+    }
 
 pub put-pos-requires : goal.put-pos-requires
 put-pos-requires c =

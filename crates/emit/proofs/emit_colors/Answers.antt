@@ -66,7 +66,22 @@ emit_literals-requires c =
     let h : e.result.next + length (literal_words c.args.bd left) ≤ length e.new.out =
     omega (arith, whole, p.ensures.0, p.auto.out, e.ensures.next_value, e.auto.out) in
     rw e.ensures.colors_value
-    (record { n_bound = (omega (arith, e.ensures.count_value, untaken_few cache colors, count c.args.n c.args.colors _ c.well_formed.0 c.requires.le_n.1, c.requires.le_n.1), c.requires.le_n.2, c.requires.le_n.3, levels_untaken c.args.bd cache colors c.requires.le_n.4); colors_in_bounds = h })
+    (record {
+      n_bound = (
+        omega (
+          arith,
+          e.ensures.count_value,
+          untaken_few cache colors,
+          count c.args.n c.args.colors _ c.well_formed.0
+              c.requires.le_n.1,
+          c.requires.le_n.1,
+        ),
+        c.requires.le_n.2,
+        c.requires.le_n.3,
+        levels_untaken c.args.bd cache colors c.requires.le_n.4,
+      );
+      colors_in_bounds = h;
+    })
 
 pub returns : goal.returns
 unfolding written
@@ -80,6 +95,14 @@ returns c =
     let first = word 3 0 (length colors - 2) in record {
       value = omega (arith, rw e.ensures.colors_value at l.ensures.value, e.ensures.next_value, c.put-next.ensures.0, sum a.bd cache colors);
       out_after = (rw e.ensures.colors_value at l.ensures.out_after)
-          ∙ rw (e.ensures.out_after, e.ensures.next_value, c.put-next.ensures.1, c.put-next.ensures.0, c.call.ensures, parts a.bd cache colors, count c.args.n c.args.colors _ c.well_formed.0 c.requires.le_n.1)
+          ∙ rw (
+            e.ensures.out_after,
+            e.ensures.next_value,
+            c.put-next.ensures.1,
+            c.put-next.ensures.0,
+            c.call.ensures,
+            parts a.bd cache colors,
+            count c.args.n c.args.colors _ c.well_formed.0 c.requires.le_n.1,
+          )
           (written_append _ next (cache_words cache colors) (literals a.bd cache colors));
     }

@@ -52,7 +52,16 @@ pub line_word-requires : goal.line_word-requires
 line_word-requires c =
     let i = c.requires.lines_inside.0 in
     let l = c.args.l in
-    record { le_n = (i.two, i.eight, i.column l 0 (omega arith) c.requires.lines_inside.3, i.place l 0 (omega arith) c.requires.lines_inside.3, c.requires.lines_inside.1.table); by_index = i.below }
+    record {
+      le_n = (
+        i.two,
+        i.eight,
+        i.column l 0 (omega arith) c.requires.lines_inside.3,
+        i.place l 0 (omega arith) c.requires.lines_inside.3,
+        c.requires.lines_inside.1.table,
+      );
+      by_index = i.below;
+    }
 
 pub loop-a-init : goal.loop-a-init
 loop-a-init c = (omega arith, c.requires.lines_inside.3, refl, λ f same start e. e)

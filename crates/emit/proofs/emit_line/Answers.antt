@@ -19,4 +19,8 @@ returns c =
     let p = c.put-next in
     let call = c.call.ensures in
     let wide = c.wide.ensures.0 in
-    let e = c.emit_sent in record { value = omega (arith, e.ensures.value, k, p.ensures.0); out_after = e.ensures.out_after ∙ rw (p.ensures.1, p.ensures.0, k, call, wide) refl }
+    let e = c.emit_sent in record {
+      value = omega (arith, e.ensures.value, k, p.ensures.0);
+      out_after = e.ensures.out_after
+          ∙ rw (p.ensures.1, p.ensures.0, k, call, wide) refl;
+    }

@@ -16,4 +16,8 @@ emit_keyed-requires c =
     let k = c.by_cells.ensures c.if-by_cells.false in
     let keys = c.line_keys in
     let room : c.args.count ≤ length keys.new.keys = omega (arith, k.2, keys.auto.keys) in
-    record { lines_inside = (c.requires.lines_inside.0, c.requires.lines_inside.1, k.0, omega (arith, k.1), keys.ensures); count_in_bounds = (c.requires.count_in_bounds, room) }
+    record {
+      lines_inside = (c.requires.lines_inside.0, c.requires.lines_inside.1, k.0, omega (arith, k.1), keys.ensures);
+      count_in_bounds =
+          (c.requires.count_in_bounds, room);
+    }

@@ -13,7 +13,11 @@ digit-requires c = digit_least _ (sym c.is_digit.ensures ∙ c.if-is_digit.true)
 
 pub returns-then-v-lt10000000 : goal.returns-then-v-lt10000000
 unfolding column
-returns-then-v-lt10000000 c = rw c.digit.ensures.0 (sym (simp (sym c.is_digit.ensures ∙ c.if-is_digit.true, ne_eqb _ _ c.if-v-eq0.false, lt-ltb _ _ c.if-v-lt10000000.true)))
+returns-then-v-lt10000000 c = rw c.digit.ensures.0 (sym (simp (
+  sym c.is_digit.ensures ∙ c.if-is_digit.true,
+  ne_eqb _ _ c.if-v-eq0.false,
+  lt-ltb _ _ c.if-v-lt10000000.true,
+)))
 
 pub returns-else-v-lt10000000 : goal.returns-else-v-lt10000000
 unfolding column

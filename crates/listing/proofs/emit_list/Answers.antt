@@ -78,7 +78,13 @@ emit_colors-at-requires c =
     let h : 0 + length (color_words c.args.bd c.args.cache.now (take c.args.n c.args.colors)) ≤ length c.args.out.now =
     omega (arith, most _ _ _ _ _ _ _ _ _ eight c.requires.n_bound.0 c.requires.accepted, c.requires.n_bound.1) in
     record {
-      le_n = (rw (count _ _ _ _ _ _ _ _ _ eight c.requires.n_bound.0 c.requires.accepted) at f.enough, c.requires.n_bound.0, f.deep, f.deep_most, rw (taken _ _ _ _ _ _ _ _ _ eight c.requires.n_bound.0 c.requires.accepted) at f.levels);
+      le_n = (
+        rw (count _ _ _ _ _ _ _ _ _ eight c.requires.n_bound.0 c.requires.accepted) at f.enough,
+        c.requires.n_bound.0,
+        f.deep,
+        f.deep_most,
+        rw (taken _ _ _ _ _ _ _ _ _ eight c.requires.n_bound.0 c.requires.accepted) at f.levels,
+      );
       colors_in_bounds = h;
     }
 
@@ -86,7 +92,13 @@ pub raw_width-before-requires : goal.raw_width-before-requires
 raw_width-before-requires c =
     let eight : length c.args.colors ≡ 8 = good_length (e_int w16) 8 c.args.colors _ c.well_formed.1.1.1.0 in
     let e = c.emit_colors-at in
-    let h : e.result ≤ length e.new.out = omega (arith, e.ensures.value, most _ _ _ _ _ _ _ _ _ eight c.requires.n_bound.0 c.requires.accepted, c.requires.n_bound.1, e.auto.out) in
+    let h : e.result ≤ length e.new.out = omega (
+      arith,
+      e.ensures.value,
+      most _ _ _ _ _ _ _ _ _ eight c.requires.n_bound.0 c.requires.accepted,
+      c.requires.n_bound.1,
+      e.auto.out,
+    ) in
     (h, omega (arith, e.ensures.value, most _ _ _ _ _ _ _ _ _ eight c.requires.n_bound.0 c.requires.accepted))
 
 pub emit_map-count-requires : goal.emit_map-count-requires
@@ -98,7 +110,12 @@ emit_map-count-requires c =
     let h : e.result + length (map_words a.n a.transposed a.flags.now a.map.now a.width a.height) ≤ length e.new.out =
     omega (arith, most _ _ _ _ _ _ _ _ _ eight c.requires.n_bound.0 c.requires.accepted, c.requires.n_bound.1, e.ensures.value, e.auto.out) in
     record {
-      lines_inside = (lines_inside _ _ _ _ _ _ _ _ _ eight c.requires.n_bound.0 c.requires.accepted, f.wide_most, cells_few _ _ _ _ _ _ _ _ _ eight c.requires.n_bound.0 c.requires.accepted);
+      lines_inside = (
+        lines_inside _ _ _ _ _ _ _ _ _ eight c.requires.n_bound.0 c.requires.accepted,
+        f.wide_most,
+        cells_few _ _ _ _ _ _ _ _ _ eight
+            c.requires.n_bound.0 c.requires.accepted,
+      );
       in_bounds = (long _ _ _ _ f, omega (arith, f.flag_length));
       h_in_bounds = h;
     }
@@ -109,18 +126,39 @@ bounds-map-0 c = some_cell _ _ _ _ (facts _ _ _ _ _ c.requires.accepted)
 pub overflow_add-raw : goal.overflow_add-raw
 overflow_add-raw c =
     let eight : length c.args.colors ≡ 8 = good_length (e_int w16) 8 c.args.colors _ c.well_formed.1.1.1.0 in
-    omega (arith, c.raw_width-before.ensures.1, c.emit_colors-at.ensures.value, most _ _ _ _ _ _ _ _ _ eight c.requires.n_bound.0 c.requires.accepted, c.map_raw_width.ensures.1)
+    omega (
+      arith,
+      c.raw_width-before.ensures.1,
+      c.emit_colors-at.ensures.value,
+      most _ _ _ _ _ _ _ _ _ eight c.requires.n_bound.0 c.requires.accepted,
+      c.map_raw_width.ensures.1,
+    )
 
 pub returns : goal.returns
 returns c =
     let eight : length c.args.colors ≡ 8 = good_length (e_int w16) 8 c.args.colors _ c.well_formed.1.1.1.0 in
     let colors = color_words c.args.bd c.args.cache.now (take c.args.n c.args.colors) in
-    let room : length colors ≤ length c.args.out.now = omega (arith, most _ _ _ _ _ _ _ _ _ eight c.requires.n_bound.0 c.requires.accepted, c.requires.n_bound.1) in
+    let room : length colors ≤ length c.args.out.now = omega (
+      arith,
+      most _ _ _ _ _ _ _ _ _ eight c.requires.n_bound.0 c.requires.accepted,
+      c.requires.n_bound.1,
+    ) in
     let e = c.emit_colors-at in
     let m = c.emit_map-count in
     let front = taken_colors colors c.args.out.now e.new.out e.result room e.ensures.value e.ensures.out_after in
     record {
       number_value = (refl, omega (arith, m.ensures.value, e.ensures.value, sum _ _ _ _ _ _ _ _ _ eight c.requires.n_bound.0 c.requires.accepted));
-      raw_width_value = omega (arith, c.raw_width-before.ensures.0, ap raw_width_of front, c.map_raw_width.ensures.0, raw _ _ _ _ _ _ _ _ _ eight c.requires.n_bound.0 c.requires.accepted);
-      out_after = m.ensures.out_after ∙ rw (e.ensures.out_after, e.ensures.value, parts _ _ _ _ _ _ _ _ _ eight c.requires.n_bound.0 c.requires.accepted) (written_append c.args.out.now 0 colors _);
+      raw_width_value = omega (
+        arith,
+        c.raw_width-before.ensures.0,
+        ap raw_width_of front,
+        c.map_raw_width.ensures.0,
+        raw _ _ _ _ _ _ _ _ _ eight c.requires.n_bound.0 c.requires.accepted,
+      );
+      out_after = m.ensures.out_after ∙ rw (
+        e.ensures.out_after,
+        e.ensures.value,
+        parts _ _ _ _ _ _ _ _ _ eight c.requires.n_bound.0
+            c.requires.accepted,
+      ) (written_append c.args.out.now 0 colors _);
     }

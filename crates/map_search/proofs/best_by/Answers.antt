@@ -16,16 +16,29 @@ fit map s l n m e below few many = rw e (key_cell map s l 0 n below (omega arith
 
 pub rates-rates-requires : goal.rates-rates-requires
 rates-rates-requires c =
-    let a = c.args in
-    (c.requires.le_n.0, c.requires.le_n.1, rw (fit c.args.map.now c.args.s c.args.l c.args.n c.args.m c.requires.le_n.4 c.requires.le_n.3 c.requires.le_n.0 c.requires.le_n.1).ctx (context_small a.map.now a.s a.l 0), c.requires.le_n.2)
+    let a = c.args in (
+      c.requires.le_n.0,
+      c.requires.le_n.1,
+      rw (fit c.args.map.now c.args.s c.args.l c.args.n c.args.m c.requires.le_n.4 c.requires.le_n.3
+          c.requires.le_n.0 c.requires.le_n.1).ctx (context_small a.map.now a.s a.l 0),
+      c.requires.le_n.2,
+    )
 
 pub constant-zero-requires : goal.constant-zero-requires
-constant-zero-requires c =
-    (omega arith, (fit c.args.map.now c.args.s c.args.l c.args.n c.args.m c.requires.le_n.4 c.requires.le_n.3 c.requires.le_n.0 c.requires.le_n.1).fits.0, c.requires.le_n.5)
+constant-zero-requires c = (
+  omega arith,
+  (fit c.args.map.now c.args.s c.args.l c.args.n c.args.m c.requires.le_n.4 c.requires.le_n.3 c.requires.le_n.0
+      c.requires.le_n.1).fits.0,
+  c.requires.le_n.5,
+)
 
 pub best_const-requires : goal.best_const-requires
-best_const-requires c =
-    (c.requires.le_n.1, (fit c.args.map.now c.args.s c.args.l c.args.n c.args.m c.requires.le_n.4 c.requires.le_n.3 c.requires.le_n.0 c.requires.le_n.1).fits.0, c.requires.le_n.5)
+best_const-requires c = (
+  c.requires.le_n.1,
+  (fit c.args.map.now c.args.s c.args.l c.args.n c.args.m c.requires.le_n.4 c.requires.le_n.3 c.requires.le_n.0
+      c.requires.le_n.1).fits.0,
+  c.requires.le_n.5,
+)
 
 pub returns : goal.returns
 returns c =

@@ -11,7 +11,8 @@ total lambda d = total_of d.cost lambda
 
 abbrev pub invariant-loop-c : goal.invariant-loop-c
 invariant-loop-c l =
-    (cheapest (total l.lambda) l.best (constants_by l.dists l.rates l.k l.row l.c (l.n - l.c)) ≡ cheapest (total l.lambda) l.initial.best (constants_by l.dists l.rates l.k l.row 0 l.n))
+    (cheapest (total l.lambda) l.best (constants_by l.dists l.rates l.k l.row l.c (l.n - l.c)) ≡ cheapest (total l.lambda) l.initial.best
+    (constants_by l.dists l.rates l.k l.row 0 l.n))
     × (l.c ≤ l.n) × (l.least ≡ total l.lambda l.best)
 
 abbrev pub decreases-loop-c : goal.decreases-loop-c

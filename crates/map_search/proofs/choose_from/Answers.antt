@@ -67,5 +67,6 @@ returns c =
       map_after = c.put_best.ensures
           ∙ rw halted.put
           (put_plain a.src.now a.costs.now a.colors.now a.n a.lambda a.s a.map.now a.l a.ctx
-          (length a.src.now) c.requires.sound.0 c.requires.sound.3 halted.cells halted.few a.best (plain a.src.now a.costs.now a.colors.now a.n a.lambda a.s a.map.now a.l a.ctx a.best c.requires.le_n.0 c.requires.le_n.5));
+          (length a.src.now) c.requires.sound.0 c.requires.sound.3 halted.cells halted.few a.best
+          (plain a.src.now a.costs.now a.colors.now a.n a.lambda a.s a.map.now a.l a.ctx a.best c.requires.le_n.0 c.requires.le_n.5));
     }

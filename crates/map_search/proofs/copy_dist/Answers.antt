@@ -17,11 +17,20 @@ pub overflow_sub-l : goal.overflow_sub-l
 overflow_sub-l c = omega (arith, c.requires.sound.3)
 
 pub place-q-requires : goal.place-q-requires
-place-q-requires c = omega (arith, c.requires.sound.0.inside (c.args.l - 1) c.loop-a.a (omega (arith, c.requires.sound.2)) c.loop-a-test.true, c.requires.sound.0.small)
+place-q-requires c = omega (
+  arith,
+  c.requires.sound.0.inside (c.args.l - 1) c.loop-a.a (omega (arith, c.requires.sound.2)) c.loop-a-test.true,
+  c.requires.sound.0.small,
+)
 
 pub bounds-map-q : goal.bounds-map-q
 bounds-map-q c =
-    omega (arith, c.place-q.ensures, c.requires.sound.0.inside (c.args.l - 1) c.loop-a.a (omega (arith, c.requires.sound.2)) c.loop-a-test.true, c.requires.sound.1)
+    omega (
+      arith,
+      c.place-q.ensures,
+      c.requires.sound.0.inside (c.args.l - 1) c.loop-a.a (omega (arith, c.requires.sound.2)) c.loop-a-test.true,
+      c.requires.sound.1,
+    )
 
 pub overflow_cast-i : goal.overflow_cast-i
 overflow_cast-i c = omega (arith, c.requires.below c.place-q.result)

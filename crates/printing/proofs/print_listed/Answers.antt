@@ -13,4 +13,8 @@ returns c =
     let cs = c.args.calls.now in
     let f = c.print_field-end.ensures in
     let e = c.end_line-first.ensures in
-    let p = c.print_calls.ensures in record { value = omega (arith, length_listed cs, p.value, e.value, f.value); out_after = p.out_after ∙ then _ _ _ _ _ _ (e.out_after ∙ field_then _ _ _ _ _ _ f.out_after f.value) (omega (arith, e.value, f.value, length_line (length cs ∷ []))) }
+    let p = c.print_calls.ensures in record {
+      value = omega (arith, length_listed cs, p.value, e.value, f.value);
+      out_after = p.out_after
+          ∙ then _ _ _ _ _ _ (e.out_after ∙ field_then _ _ _ _ _ _ f.out_after f.value) (omega (arith, e.value, f.value, length_line (length cs ∷ [])));
+    }

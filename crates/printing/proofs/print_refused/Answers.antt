@@ -9,4 +9,8 @@ pub returns : goal.returns
 unfolding refused
 returns c =
     let a = c.print_field-second.ensures in
-    let b = c.print_field-end.ensures in record { value = omega (arith, length_line (0 ∷ c.args.number ∷ [])); out_after = c.end_line.ensures.out_after ∙ field_then _ _ _ _ _ _ b.out_after b.value ∙ field_then _ _ _ _ _ _ a.out_after a.value }
+    let b = c.print_field-end.ensures in record {
+      value = omega (arith, length_line (0 ∷ c.args.number ∷ []));
+      out_after =
+          c.end_line.ensures.out_after ∙ field_then _ _ _ _ _ _ b.out_after b.value ∙ field_then _ _ _ _ _ _ a.out_after a.value;
+    }

@@ -20,4 +20,7 @@ pub returns : goal.returns
 returns c =
     let m = c.moved.ensures in
     let k = c.take-taken.ensures in
-    record { words_value = bit_none _ c.args.entry.0 _ (colors_in c.args.held) _ k c.moved.result c.if-taken-eq1.false m.1 (rw (m.0, m.2) refl); sound = sound_moved c.args.held c.moved.result 7 _ c.requires m.0 m.2 (omega arith) }
+    record {
+      words_value = bit_none _ c.args.entry.0 _ (colors_in c.args.held) _ k c.moved.result c.if-taken-eq1.false m.1 (rw (m.0, m.2) refl);
+      sound = sound_moved c.args.held c.moved.result 7 _ c.requires m.0 m.2 (omega arith);
+    }

@@ -62,4 +62,8 @@ loop-reached-preserved c =
 
 pub returns : goal.returns
 returns c =
-    let l = c.loop-reached in record { words_value = steps_end _ _ _ _ l.reached l.b l.last.0 l.invariant c.loop-reached-test.false; sound = (l.invariant.sound, λ h. omega (arith, c.loop-reached-test.false, l.invariant.sound.few)) }
+    let l = c.loop-reached in record {
+      words_value = steps_end _ _ _ _ l.reached l.b l.last.0 l.invariant c.loop-reached-test.false;
+      sound =
+          (l.invariant.sound, λ h. omega (arith, c.loop-reached-test.false, l.invariant.sound.few));
+    }

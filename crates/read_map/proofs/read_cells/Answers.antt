@@ -13,7 +13,16 @@ loop-a-init c =
 pub read_index-found-requires : goal.read_index-found-requires
 read_index-found-requires c =
     let v = c.loop-a.invariant in
-    record { sound = (rw v.size c.requires.sound.0, c.requires.sound.1, c.loop-a-test.true); le_n = (c.requires.le_n.0, c.requires.le_n.1, v.below, c.requires.le_n.3, c.requires.le_n.4) }
+    record {
+      sound = (rw v.size c.requires.sound.0, c.requires.sound.1, c.loop-a-test.true);
+      le_n = (
+        c.requires.le_n.0,
+        c.requires.le_n.1,
+        v.below,
+        c.requires.le_n.3,
+        c.requires.le_n.4,
+      );
+    }
 
 pub place-p-requires : goal.place-p-requires
 place-p-requires c = omega (

@@ -40,8 +40,11 @@ overflow_cast-taken c =
 
 pub index_at-requires : goal.index_at-requires
 index_at-requires c =
-    let p = c.requires.le_n in
-    (p.3, row_low c.args.map.now c.args.s c.args.n c.args.l c.args.a p.0 p.1 p.2 _ c.key_cell-key.ensures, omega (arith, c.take-taken.ensures.below (omega (arith, p.0)), p.1))
+    let p = c.requires.le_n in (
+      p.3,
+      row_low c.args.map.now c.args.s c.args.n c.args.l c.args.a p.0 p.1 p.2 _ c.key_cell-key.ensures,
+      omega (arith, c.take-taken.ensures.below (omega (arith, p.0)), p.1),
+    )
 
 pub returns : goal.returns
 returns c =

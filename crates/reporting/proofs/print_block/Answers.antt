@@ -14,7 +14,14 @@ returns-then-b-eq0 c =
     let four = c.print_four-at.ensures in
     let end = c.end_line.ensures in
     let e = block_zero a.k a.b c.if-b-eq0.true in
-    let n = length_line (a.k ∷ a.b.calls ∷ a.b.cells ∷ a.b.raw ∷ []) in record { value = (omega (arith, n, ap length e, end.value, four.value), omega (arith, end.value, four.value)); out_after = end.out_after ∙ four_then _ _ _ _ _ _ _ _ _ four.out_after four.value ∙ ap (λ (l : List ℕ). written a.out.now 0 l) e }
+    let n = length_line (a.k ∷ a.b.calls ∷ a.b.cells ∷ a.b.raw ∷ []) in record {
+      value = (
+        omega (arith, n, ap length e, end.value, four.value),
+        omega (arith, end.value, four.value),
+      );
+      out_after = end.out_after ∙ four_then _ _ _ _ _ _ _ _ _ four.out_after four.value
+          ∙ ap (λ (l : List ℕ). written a.out.now 0 l) e;
+    }
 
 pub returns : goal.returns
 returns c =

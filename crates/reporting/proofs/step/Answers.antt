@@ -5,7 +5,11 @@ use Rattle.reporting.proofs.step.Goals as goal
 pub returns-then-s-eq0 : goal.returns-then-s-eq0
 returns-then-s-eq0 c =
     let a = c.args in
-    let last = c.print_last-count.ensures in record { steps = step_empty a.s.now a.p a.out.now _ _ c.if-s-eq0.true last.value last.out_after; fits = (c.requires.0, omega arith, omega (arith, last.value, length_last a.p)) }
+    let last = c.print_last-count.ensures in record {
+      steps = step_empty a.s.now a.p a.out.now _ _ c.if-s-eq0.true last.value last.out_after;
+      fits =
+          (c.requires.0, omega arith, omega (arith, last.value, length_last a.p));
+    }
 
 pub step_block-requires : goal.step_block-requires
 step_block-requires c =

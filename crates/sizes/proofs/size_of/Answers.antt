@@ -11,7 +11,11 @@ pub head_of-head-requires : goal.head_of-head-requires
 head_of-head-requires c =
     let known = c.requires.known in
     let fit = c.requires.le_k in
-    let g = c.groups_of-g in record { costs_len = (known.priced, known.deep, known.deep_most); le_n = (fit.0, fit.1, levels_ok_holds known c.args.k fit g.result g.ensures) }
+    let g = c.groups_of-g in record {
+      costs_len = (known.priced, known.deep, known.deep_most);
+      le_n =
+          (fit.0, fit.1, levels_ok_holds known c.args.k fit g.result g.ensures);
+    }
 
 pub returns : goal.returns
 returns c =

@@ -8,4 +8,5 @@ use Rattle.search.proofs.Eight.{eight_places}
 use Rattle.station.proofs.in_fields.Goals as goal
 
 pub returns : goal.returns
-returns c = ap (λ (xs : List ℕ). c.args.n ∷ (xs ++ (bit c.args.transposed ∷ []))) (eight_places c.args.colors (good_length (e_int w16) 8 c.args.colors _ c.well_formed.1.0))
+returns c = ap (λ (xs : List ℕ). c.args.n ∷ (xs ++ (bit c.args.transposed ∷ [])))
+    (eight_places c.args.colors (good_length (e_int w16) 8 c.args.colors _ c.well_formed.1.0))

@@ -16,4 +16,10 @@ read_rows-requires c =
 pub returns : goal.returns
 unfolding cache_at palette_at
 returns c =
-    let p = c.places_of-p.ensures.value in record { colors_after = c.read16.ensures ∙ rw p refl; cache_after = c.read16-2.ensures ∙ rw p refl; flags_after = c.read8.ensures ∙ rw (p, c.lines_in.ensures.0) refl; map_after = c.read_rows.ensures ∙ rw p refl }
+    let p = c.places_of-p.ensures.value in record {
+      colors_after = c.read16.ensures ∙ rw p refl;
+      cache_after = c.read16-2.ensures
+          ∙ rw p refl;
+      flags_after = c.read8.ensures ∙ rw (p, c.lines_in.ensures.0) refl;
+      map_after = c.read_rows.ensures ∙ rw p refl;
+    }

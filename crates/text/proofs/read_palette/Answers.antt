@@ -9,7 +9,14 @@ pub returns-then-number-ne0 : goal.returns-then-number-ne0
 returns-then-number-ne0 c =
     let s = c.args in
     let e = c.refuse.ensures in
-    let n : c.refuse.result.number ≡ 0 → ⊥ = λ z. c.if-number-ne0.true (sym (ap (λ (x : Header). x.number) e) ∙ z) in record { value = with_small s.s.now s.at _ (e ∙ read_refused s.s.now s.at _ c.text_number-number.ensures c.if-number-ne0.true); colors_after = untouched _ _ _ n; cache_after = untouched _ _ _ n; flags_after = untouched _ _ _ n; map_after = untouched _ _ _ n }
+    let n : c.refuse.result.number ≡ 0 → ⊥ = λ z. c.if-number-ne0.true (sym (ap (λ (x : Header). x.number) e) ∙ z) in record {
+      value = with_small s.s.now s.at _ (e ∙ read_refused s.s.now s.at _ c.text_number-number.ensures c.if-number-ne0.true);
+      colors_after =
+          untouched _ _ _ n;
+      cache_after = untouched _ _ _ n;
+      flags_after = untouched _ _ _ n;
+      map_after = untouched _ _ _ n;
+    }
 
 pub read_body-requires : goal.read_body-requires
 read_body-requires c =
@@ -23,4 +30,11 @@ returns c =
     let s = c.args in
     let e = c.read_header-h.ensures in
     let n : c.read_header-h.result.number ≡ 0 = ap (λ (x : Header). x.number) e in
-    let b = c.read_body.ensures in record { value = with_small s.s.now s.at _ (e ∙ read_whole s.s.now s.at (sym c.text_number-number.ensures ∙ c.if-number-ne0.false)); colors_after = filled _ _ _ _ n b.colors_after; cache_after = filled _ _ _ _ n b.cache_after; flags_after = filled _ _ _ _ n b.flags_after; map_after = filled _ _ _ _ n b.map_after }
+    let b = c.read_body.ensures in record {
+      value = with_small s.s.now s.at _
+          (e ∙ read_whole s.s.now s.at (sym c.text_number-number.ensures ∙ c.if-number-ne0.false));
+      colors_after = filled _ _ _ _ n b.colors_after;
+      cache_after = filled _ _ _ _ n b.cache_after;
+      flags_after = filled _ _ _ _ n b.flags_after;
+      map_after = filled _ _ _ _ n b.map_after;
+    }
