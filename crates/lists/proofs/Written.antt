@@ -39,12 +39,12 @@ pub written_next : (g : ℕ → ℕ) (l : List ℕ) (at n : ℕ)
     → written (written l at (up_to (λ i. g i ∷ []) n)) (at + n) (g n ∷ []) ≡ written l at (up_to (λ i. g i ∷ []) (n + 1))
 written_next g l at n = rw (length_up_to g n) at (written_more (λ i. g i ∷ []) l at n)
 
-as_sets : (l : List ℕ) (at : ℕ) (ws : List ℕ) → written l at ws ≡ sets l at ws
+as_sets : {A : Type 0} (l : List A) (at : ℕ) (ws : List A) → written l at ws ≡ sets l at ws
 unfolding written
 as_sets l at [] = refl
 as_sets l at (w ∷ ws) = rw add-one (as_sets (set l at w) (suc at) ws)
 
-pub written_front : (l ws : List ℕ) → length ws ≤ length l → written l 0 ws ≡ front ws l
+pub written_front : {A : Type 0} (l ws : List A) → length ws ≤ length l → written l 0 ws ≡ front ws l
 unfolding front
 written_front l ws h =
     let k : 0 + length ws ≤ length l = omega arith in

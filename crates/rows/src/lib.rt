@@ -528,16 +528,78 @@ const NEXTS: [u8; 8192] = *b"\
     \x18\x58\x98\xd0\x10\x50\x90\xd8\x20\x60\xa0\xe0\x18\x58\x98\xe0\x28\x68\xa8\xe8\x28\x60\xa0\xe8\x30\x70\xb0\xf0\x30\x70\xa8\xf0";
 
 // The tables are to be made once and lent: each use of a constant writes it whole.
-pub fn orders() -> [u8; 4096]
-    ensures { result ≡ order_table }
-{
-    ORDERS
+// The order of the indices for each row.
+#[derive(Drop)]
+pub struct Orders {
+    pub table: [u8; 4096],
+    pub ghost is_table: { table ≡ order_table },
 }
 
-pub fn codes() -> [u8; 4096]
-    ensures { result ≡ code_table }
-{
-    CODES
+impl Orders {
+    pub fn new() -> Self {
+        Orders { table: ORDERS }
+    }
+
+    // The index at a rank.
+    pub fn index_at(&self, row: usize, rank: Rank) -> Index
+        requires { (row < 512) × (rank.0 < 8) }
+        ensures { result.0 ≡ get_or (order_row row) rank.0 0 }
+    {
+        Index(self.table[row * 8 + rank.0 as usize])
+    }
+}
+
+// The context and the ranks for each row.
+#[derive(Drop)]
+pub struct Codes {
+    pub table: [u8; 4096],
+    pub ghost is_table: { table ≡ code_table },
+}
+
+impl Codes {
+    pub fn new() -> Self {
+        Codes { table: CODES }
+    }
+
+    // Eight times the context, and the rank of an index.
+    pub fn code_at(&self, row: usize, index: Index) -> u8
+        requires { (row < 512) × (index.0 < 8) }
+        ensures { result ≡ code_at row index.0 }
+    {
+        self.table[row * 8 + index.0 as usize]
+    }
+
+    // The rank of an index.
+    pub fn rank_at(&self, row: usize, index: Index) -> Rank
+        requires { (row < 512) × (index.0 < 8) }
+        ensures { result.0 ≡ rank_of (around_row row) 8 index.0 }
+    {
+        Rank(self.code_at(row, index) % 8)
+    }
+
+    // The context: each code of the row has it.
+    pub fn ctx_at(&self, row: usize) -> usize
+        requires { row < 512 }
+        ensures { result ≡ (around_row row).ctx }
+    {
+        (self.code_at(row, Index(0)) / 8) as usize
+    }
+}
+
+// Both tables.
+#[derive(Drop)]
+pub struct Tables {
+    pub orders: Orders,
+    pub codes: Codes,
+}
+
+impl Tables {
+    pub fn new() -> Self {
+        Tables {
+            orders: Orders::new(),
+            codes: Codes::new(),
+        }
+    }
 }
 
 pub fn nexts() -> [u8; 8192]
@@ -552,36 +614,4 @@ pub fn row_of(left: Index, top: Index, diag: Index) -> usize
     ensures { result ≡ row_of left.0 top.0 diag.0 }
 {
     (left.0 as usize * 8 + top.0 as usize) * 8 + diag.0 as usize
-}
-
-// The index at a rank.
-pub fn index_at(orders: &[u8; 4096], row: usize, rank: Rank) -> Index
-    requires { (orders.now ≡ order_table) × (row < 512) × (rank.0 < 8) }
-    ensures { result.0 ≡ get_or (order_row row) rank.0 0 }
-{
-    Index(orders[row * 8 + rank.0 as usize])
-}
-
-// Eight times the context, and the rank of an index.
-pub fn code_at(codes: &[u8; 4096], row: usize, index: Index) -> u8
-    requires { (codes.now ≡ code_table) × (row < 512) × (index.0 < 8) }
-    ensures { result ≡ code_at row index.0 }
-{
-    codes[row * 8 + index.0 as usize]
-}
-
-// The rank of an index.
-pub fn rank_at(codes: &[u8; 4096], row: usize, index: Index) -> Rank
-    requires { (codes.now ≡ code_table) × (row < 512) × (index.0 < 8) }
-    ensures { result.0 ≡ rank_of (around_row row) 8 index.0 }
-{
-    Rank(code_at(codes, row, index) % 8)
-}
-
-// The context: each code of the row has it.
-pub fn ctx_at(codes: &[u8; 4096], row: usize) -> usize
-    requires { (codes.now ≡ code_table) × (row < 512) }
-    ensures { result ≡ (around_row row).ctx }
-{
-    (code_at(codes, row, Index(0)) / 8) as usize
 }

@@ -1,7 +1,0 @@
-use native.Mathlib.Omega.{arith}
-use Rattle.rows.proofs.Laws.{rank_eight}
-use Rattle.rows.proofs.ctx_at.Goals as goal
-
-pub returns : goal.returns
-returns c =
-    omega (arith, c.code_at.ensures, rank_eight c.args.row 0 c.requires.1 (omega arith))
