@@ -3,12 +3,12 @@
 #![tactic(auto)]
 
 ghost use Rattle.std.specs.Prelude.{◌≡◌, ◌+◌, ◌*◌, ◌<◌, length};
-ghost use Rattle.rows.specs.Rows.{code_table};
 ghost use Rattle.near.specs.Near.{edge_key, three_key, key_at, Below};
 
 use context::Index;
+use rows::Codes;
 
-#[derive(Drop)]
+#[derive(Clone, Copy)]
 pub struct Key {
     pub row: usize,
     pub ctx: usize,
@@ -25,20 +25,20 @@ pub fn edge_key(near: Index) -> Key
     }
 }
 
-pub fn three_key(codes: &[u8; 4096], left: Index, top: Index, diag: Index) -> Key
-    requires { (codes.now ≡ code_table) × (left.0 < 8) × (top.0 < 8) × (diag.0 < 8) }
+pub fn three_key(codes: &Codes, left: Index, top: Index, diag: Index) -> Key
+    requires { (left.0 < 8) × (top.0 < 8) × (diag.0 < 8) }
     ensures { result ≡ three_key left.0 top.0 diag.0 }
 {
     let row = rows::row_of(left, top, diag);
     Key {
         row,
-        ctx: rows::ctx_at(codes, row),
+        ctx: codes.ctx_at(row),
     }
 }
 
 // At row y and column x of a row-major map of width w; at (0,0) as if index 0 stood beside it.
-pub fn key_at(map: &[u8], codes: &[u8; 4096], w: usize, y: usize, x: usize) -> Key
-    requires { (y * w + x < length map.now) × Below map.now 8 × (codes.now ≡ code_table) }
+pub fn key_at(map: &[u8], codes: &Codes, w: usize, y: usize, x: usize) -> Key
+    requires { (y * w + x < length map.now) × Below map.now 8 }
     ensures { result ≡ key_at map.now w y x }
 {
     let p = y * w + x;
