@@ -6,11 +6,13 @@ ghost use Rattle.std.specs.Prelude.{◌≡◌, ◌&&◌, ◌+◌, ◌*◌, ◌<�
 ghost use Rattle.lists.specs.Counted.{within, all_below, all_in};
 ghost use Rattle.context.specs.Map.{row_at, col_at, lines_of, length_of, line_cell};
 ghost use Rattle.literals.specs.Literals.{levels_ok};
+ghost use Rattle.refusals.specs.Numbers.{number_of};
 ghost use Rattle.accept.specs.Palette.{first_colors, palette_of};
 ghost use Rattle.accept.specs.Answer.{rooms_ok, refused_by};
 ghost use Rattle.accept.specs.Accepted.{sides_ok, colors_ok, orient_ok, line_ok, refusal};
 
 use context::{Index, Level};
+use refusals::Refusal;
 
 // The answer: number 0 with the colours, their count and the orientation, or a refusal with zeros; and, where search made
 // it, the bits that it counted for colours and map. `search::estimate` makes one figure of the two.
@@ -244,16 +246,26 @@ pub fn fault(
     0
 }
 
-// A refusal: zeros beside its number.
-pub fn refuse(number: u32) -> Palette
-    ensures { result ≡ refused_by number }
+// Zeros in every field.
+pub fn blank() -> Palette
+    ensures { result ≡ refused_by 0 }
 {
     Palette {
-        number,
+        number: 0,
+        transposed: false,
         n: 0,
         colors: [0u16; 8],
-        transposed: false,
         head: 0.0,
         map_bits: 0.0,
+    }
+}
+
+// A refusal: zeros beside its number.
+pub fn refuse(refusal: Refusal) -> Palette
+    ensures { result ≡ refused_by (number_of refusal) }
+{
+    Palette {
+        number: refusal.number(),
+        ..blank()
     }
 }
