@@ -1,16 +1,17 @@
 // The choice of one cell's index among its candidates. Functions may have a `requires`.
 #![tactic(auto)]
 
-ghost use Rattle.std.specs.Prelude.{◌≡◌, ℕ, ◌+◌, ◌*◌, ◌%◌, ◌≤◌, ◌<◌, true, false, cond, length, get_or, pos};
+ghost use Rattle.std.specs.Prelude.{◌≡◌, ℕ, ◌+◌, ◌*◌, ◌≤◌, ◌<◌, false, cond, length, get_or, pos};
 ghost use Rattle.std.specs.Float.{nan, binary32};
 ghost use Rattle.std.specs.Float.Ieee.{lt, le, of_int};
 ghost use Rattle.counts.specs.Counts.{uniform_bits};
 ghost use Rattle.lists.specs.Counted.{all_below};
 ghost use Rattle.cells.specs.Sure.{Capped, Skips, Sure, Priced, passed_by, sole_by};
-ghost use Rattle.rows.specs.Rows.{order_table, code_table, row_order, order_row, Fits, Tables};
+ghost use Rattle.rows.specs.Rows.{row_order, order_row, Fits};
 ghost use Rattle.cells.specs.Cell.{square, total_of, plus, eight, squares_of, rates_of, pick_at, chosen, cell_of};
 
 use context::{Index, Rank};
+use std::ops::Add;
 
 // Distance and rate, kept together.
 #[derive(Clone, Copy)]
@@ -20,14 +21,14 @@ pub struct Cost {
 }
 
 // The candidate that stands: its total, rank and index.
-#[derive(Drop)]
+#[derive(Clone, Copy)]
 pub struct Pick {
     pub total: f32,
     pub rank: usize,
     pub index: usize,
 }
 
-#[derive(Drop)]
+#[derive(Clone, Copy)]
 pub struct Cell {
     pub index: u8,
     pub cost: Cost,
@@ -40,18 +41,24 @@ pub fn square(x: f32, c: f32) -> f32
     e * e
 }
 
-pub fn total(c: Cost, lambda: f32) -> f32
-    ensures { result ≡ total_of c lambda }
-{
-    c.dist + lambda * c.rate
+impl Cost {
+    pub fn total(self, lambda: f32) -> f32
+        ensures { result ≡ total_of self lambda }
+    {
+        self.dist + lambda * self.rate
+    }
 }
 
-pub fn plus(c: Cost, d: Cost) -> Cost
-    ensures { result ≡ plus c d }
-{
-    Cost {
-        dist: c.dist + d.dist,
-        rate: c.rate + d.rate,
+impl Add for Cost {
+    type Output = Cost;
+
+    ghost add_gives = { λ c d r. r ≡ plus c d };
+
+    fn add(self, d: Cost) -> Cost {
+        Cost {
+            dist: self.dist + d.dist,
+            rate: self.rate + d.rate,
+        }
     }
 }
 
@@ -74,7 +81,7 @@ fn uniform(v: u8, n: u8) -> f32
     requires { n ≤ 8 }
     ensures { result ≡ of_int binary32 (pos (uniform_bits v n)) }
 {
-    counts::uniform_bits(v as u32, n as u32) as u16 as f32
+    counts::uniform_bits(u32::from(v), u32::from(n)) as u16 as f32
 }
 
 fn uniform_rates(n: u8) -> [f32; 8]
@@ -109,17 +116,6 @@ fn eight_from(costs: &[f32], at: usize) -> [f32; 8]
     ]
 }
 
-// A cell's cost by rank; `first` at (0,0).
-pub fn rates(costs: &[f32], n: usize, ctx: usize, first: bool) -> [f32; 8]
-    requires { (2 ≤ n) × (n ≤ 8) × (ctx < 5) × (length costs.now ≡ 301) }
-    ensures { result ≡ rates_of costs.now n ctx first }
-{
-    if first {
-        return uniform_rates(n as u8);
-    }
-    eight_from(costs, 21 + ((n - 2) * 5 + ctx) * 8)
-}
-
 // Told by three numbers, not by a struct: so the compiler keeps them apart.
 fn better(p: Pick, total: f32, rank: usize, index: usize) -> Pick
     ensures { result ≡ cond (lt total p.total) (record { total = total; rank = rank; index = index }) p }
@@ -135,16 +131,16 @@ fn better(p: Pick, total: f32, rank: usize, index: usize) -> Pick
 fn candidate(
     dists: &[f32; 8],
     rates: &[f32; 8],
-    orders: &[u8; 4096],
+    orders: &rows::Orders,
     row: usize,
     q: usize,
     lambda: f32,
 ) -> Pick
-    requires { (orders.now ≡ order_table) × (row < 512) × (q < 8) }
+    requires { (row < 512) × (q < 8) }
     ensures { result ≡ pick_at dists.now rates.now lambda q (get_or (order_row row) q 0) }
 {
-    let found = rows::index_at(orders, row, Rank(q as u8));
-    let index = found.0 as usize;
+    let found = orders.index_at(row, Rank(q as u8));
+    let index = usize::from(found.0);
     Pick {
         total: dists[index] + lambda * rates[q],
         rank: q,
@@ -156,75 +152,35 @@ fn candidate(
 fn pick_by(
     dists: &[f32; 8],
     rates: &[f32; 8],
-    orders: &[u8; 4096],
+    orders: &rows::Orders,
     row: usize,
     n: usize,
     lambda: f32,
 ) -> Pick
-    requires { (orders.now ≡ order_table) × Fits row n × (0 < n) × (n ≤ 8) }
+    requires { Fits row n × (0 < n) × (n ≤ 8) }
     ensures { result ≡ chosen dists.now rates.now lambda (row_order row n) }
 {
     let mut best = candidate(dists, rates, orders, row, 0, lambda);
-    let mut q: usize = 1;
-    while q < n {
+    for q in 1..n {
         let next = candidate(dists, rates, orders, row, q, lambda);
         best = better(best, next.total, q, next.index);
-        q += 1;
     }
     best
 }
 
-// The cheapest index for the sample x, the first of the cheapest in rank order.
-pub fn choose_cell(
-    x: f32,
-    colors: &[f32; 8],
-    orders: &[u8; 4096],
-    row: usize,
-    rates: &[f32; 8],
-    n: usize,
-    lambda: f32,
-) -> Cell
-    requires { (orders.now ≡ order_table) × Fits row n × (0 < n) × (n ≤ 8) }
-    ensures { result ≡ cell_of (squares_of x colors.now) rates.now lambda (row_order row n) }
-{
-    let dists = squares(x, colors);
-    let p = pick_by(&dists, rates, orders, row, n, lambda);
-    let i = p.index;
-    let k = p.rank;
-    let cost = Cost {
-        dist: dists[i],
-        rate: rates[k],
-    };
-    Cell {
-        index: i as u8,
-        cost,
-    }
-}
-
-// The largest of the 40 costs of a colour from place at on. It may be any number: `none_above` tests it.
-fn highest(costs: &[f32], at: usize) -> f32
-    requires { at + 40 ≤ length costs.now }
-{
-    let mut most: f32 = 0.0;
-    let mut k: usize = 0;
-    while k < 40 {
-        if most < costs[at + k] {
-            most = costs[at + k];
-        }
-        k += 1;
-    }
-    most
+// The largest of the costs. It may be any number: `none_above` tests it.
+fn highest(costs: &[f32]) -> f32 {
+    costs
+        .iter()
+        .fold(0.0, |most, cost| if most < *cost { *cost } else { most })
 }
 
 fn none_above(costs: &[f32], at: usize, most: f32) -> bool
     requires { at + 40 ≤ length costs.now }
     ensures { result ≡ all_below (λ (k : ℕ). le (get_or costs.now (at + k) nan) most) 40 }
 {
-    let mut k: usize = 0;
-    while k < 40 {
-        if costs[at + k] <= most {
-            k += 1;
-        } else {
+    for k in 0..40usize {
+        if !(costs[at + k] <= most) {
             return false;
         }
     }
@@ -232,12 +188,12 @@ fn none_above(costs: &[f32], at: usize, most: f32) -> bool
 }
 
 // What no cost of a cell among n colours exceeds; or nan.
-pub fn cap_of(costs: &[f32], n: usize) -> f32
+fn cap_of(costs: &[f32], n: usize) -> f32
     requires { (2 ≤ n) × (n ≤ 8) × (length costs.now ≡ 301) }
     ensures { Capped costs.now n result }
 {
     let at = 21 + (n - 2) * 40;
-    let most = highest(costs, at);
+    let most = highest(&costs[at..at + 40]);
     if 0.0 <= most {
         if none_above(costs, at, most) {
             return most;
@@ -257,7 +213,7 @@ fn mark(colors: &[f32; 8], i: usize, n: usize) -> f32
 }
 
 // The marks for `guess`; they may be any numbers.
-pub fn marks_of(colors: &[f32; 8], n: usize) -> [f32; 8] {
+fn marks_of(colors: &[f32; 8], n: usize) -> [f32; 8] {
     [
         mark(colors, 0, n),
         mark(colors, 1, n),
@@ -270,34 +226,26 @@ pub fn marks_of(colors: &[f32; 8], n: usize) -> [f32; 8] {
     ]
 }
 
-fn bit_of(test: bool) -> usize
-    ensures { result ≤ 1 }
-{
-    test as usize
-}
-
 // An index that may be the nearest: how many of the seven marks lie below x.
 fn guess(x: f32, marks: &[f32; 8]) -> usize
     ensures { result < 8 }
 {
-    bit_of(marks[0] < x)
-        + bit_of(marks[1] < x)
-        + bit_of(marks[2] < x)
-        + bit_of(marks[3] < x)
-        + bit_of(marks[4] < x)
-        + bit_of(marks[5] < x)
-        + bit_of(marks[6] < x)
+    usize::from(marks[0] < x)
+        + usize::from(marks[1] < x)
+        + usize::from(marks[2] < x)
+        + usize::from(marks[3] < x)
+        + usize::from(marks[4] < x)
+        + usize::from(marks[5] < x)
+        + usize::from(marks[6] < x)
 }
 
 // For each index b eight places: whether index i is past n, or b itself.
-pub fn skips_of(n: usize) -> [bool; 64]
+fn skips_of(n: usize) -> [bool; 64]
     ensures { Skips n result }
 {
     let mut skips = [false; 64];
-    let mut j: usize = 0;
-    while j < 64 {
+    for j in 0..64usize {
         skips[j] = (n <= j % 8) | (j % 8 == j / 8);
-        j += 1;
     }
     skips
 }
@@ -326,14 +274,14 @@ fn alone(dists: &[f32; 8], top: f32, skips: &[bool; 64], at: usize) -> bool
 }
 
 // The cell of index b, with its rank from the table.
-fn sole_cell(dists: &[f32; 8], rates: &[f32; 8], codes: &[u8; 4096], row: usize, b: usize) -> Cell
-    requires { (codes.now ≡ code_table) × (row < 512) × (b < 8) }
+fn sole_cell(dists: &[f32; 8], rates: &[f32; 8], codes: &rows::Codes, row: usize, b: usize) -> Cell
+    requires { (row < 512) × (b < 8) }
     ensures { result ≡ sole_by dists.now rates.now row b }
 {
-    let rank = rows::rank_at(codes, row, Index(b as u8));
+    let rank = codes.rank_at(row, Index(b as u8));
     let cost = Cost {
         dist: dists[b],
-        rate: rates[rank.0 as usize],
+        rate: rates[usize::from(rank.0)],
     };
     Cell {
         index: b as u8,
@@ -341,33 +289,84 @@ fn sole_cell(dists: &[f32; 8], rates: &[f32; 8], codes: &[u8; 4096], row: usize,
     }
 }
 
-// As `choose_cell`, but not for (0,0): at once where one index is the cheapest whatever the ranks.
-pub fn quick_cell(
-    x: f32,
-    colors: &[f32; 8],
-    marks: &[f32; 8],
-    costs: &[f32],
-    orders: &[u8; 4096],
-    codes: &[u8; 4096],
-    row: usize,
-    ctx: usize,
-    n: usize,
-    lambda: f32,
-    cap: f32,
-    skips: &[bool; 64],
-) -> Cell
-    requires tables { Tables orders.now codes.now × Fits row n × (ctx < 5) }
-    requires le_n { (2 ≤ n) × (n ≤ 8) × (length costs.now ≡ 301) × Priced costs.now lambda × Sure costs.now n cap skips.now }
-    ensures { result ≡ cell_of (squares_of x colors.now) (rates_of costs.now n ctx false) lambda (row_order row n) }
-{
-    let rates = rates(costs, n, ctx, false);
-    let dists = squares(x, colors);
-    let b = guess(x, marks);
-    if b < n {
-        let top = dists[b] + lambda * cap;
-        if alone(&dists, top, skips, b * 8) {
-            return sole_cell(&dists, &rates, codes, row, b);
+// What is made once for a size. The costs are not negative, and lambda is finite.
+#[derive(Drop)]
+pub struct Pricing<'a> {
+    pub costs: &'a [f32],
+    pub n: usize,
+    pub lambda: f32,
+    pub colors: [f32; 8],
+    pub marks: [f32; 8],
+    pub cap: f32,
+    pub skips: [bool; 64],
+    pub ghost few: { (2 ≤ n) × (n ≤ 8) },
+    pub ghost full: { length costs.now ≡ 301 },
+    pub ghost priced: { ∥ Priced costs.now lambda ∥₁ },
+    pub ghost sure: { ∥ Sure costs.now n cap skips ∥₁ },
+}
+
+impl<'a> Pricing<'a> {
+    pub fn new(costs: &'a [f32], colors: [f32; 8], n: usize, lambda: f32) -> Self
+        requires { (2 ≤ n) × (n ≤ 8) × (length costs.now ≡ 301) × Priced costs.now lambda }
+        ensures { (result.costs.now ≡ costs.entry.now) × (result.n ≡ n) × (result.lambda ≡ lambda) × (result.colors ≡ colors) }
+    {
+        let marks = marks_of(&colors, n);
+        let cap = cap_of(costs, n);
+        let skips = skips_of(n);
+        Pricing {
+            costs,
+            n,
+            lambda,
+            colors,
+            marks,
+            cap,
+            skips,
         }
     }
-    choose_cell(x, colors, orders, row, &rates, n, lambda)
+
+    // A cell's cost by rank; `first` at (0,0).
+    pub fn rates(&self, ctx: usize, first: bool) -> [f32; 8]
+        requires { ctx < 5 }
+        ensures { result ≡ rates_of self.now.costs.now self.now.n ctx first }
+    {
+        if first {
+            return uniform_rates(self.n as u8);
+        }
+        eight_from(self.costs, 21 + ((self.n - 2) * 5 + ctx) * 8)
+    }
+
+    // The cheapest index for the sample x, the first of the cheapest in rank order.
+    pub fn choose(&self, orders: &rows::Orders, row: usize, rates: &[f32; 8], x: f32) -> Cell
+        requires { Fits row self.now.n }
+        ensures { result ≡ cell_of (squares_of x self.now.colors) rates.now self.now.lambda (row_order row self.now.n) }
+    {
+        let dists = squares(x, &self.colors);
+        let p = pick_by(&dists, rates, orders, row, self.n, self.lambda);
+        let cost = Cost {
+            dist: dists[p.index],
+            rate: rates[p.rank],
+        };
+        Cell {
+            index: p.index as u8,
+            cost,
+        }
+    }
+
+    // As `choose`, but not for (0,0): at once where one index is the cheapest whatever the ranks.
+    pub fn quick_cell(&self, tables: &rows::Tables, row: usize, ctx: usize, x: f32) -> Cell
+        requires { Fits row self.now.n × (ctx < 5) }
+        ensures { result ≡ cell_of (squares_of x self.now.colors) (rates_of self.now.costs.now self.now.n ctx false)
+            self.now.lambda (row_order row self.now.n) }
+    {
+        let rates = self.rates(ctx, false);
+        let dists = squares(x, &self.colors);
+        let b = guess(x, &self.marks);
+        if b < self.n {
+            let top = dists[b] + self.lambda * self.cap;
+            if alone(&dists, top, &self.skips, b * 8) {
+                return sole_cell(&dists, &rates, &tables.codes, row, b);
+            }
+        }
+        self.choose(&tables.orders, row, &rates, x)
+    }
 }

@@ -12,8 +12,8 @@ pub bounds-dists-index : goal.bounds-dists-index
 bounds-dists-index c =
     let a = c.args in
     let low : (k : ℕ) → k < 512 → get_or (order_row k) a.q 0 < 8 =
-    λ k h. order_below (around_row k) 8 (row_ok_holds k 8 (eight_fits k h)) a.q c.requires.2 in
-    omega (arith, c.index_at-found.ensures, low a.row c.requires.1, low 0 (omega arith))
+    λ k h. order_below (around_row k) 8 (row_ok_holds k 8 (eight_fits k h)) a.q c.requires.1 in
+    omega (arith, c.from-index.ensures, c.index_at-found.ensures, low a.row c.requires.0, low 0 (omega arith))
 
 pub returns : goal.returns
-returns c = rw c.index_at-found.ensures refl
+returns c = rw (c.from-index.ensures, c.index_at-found.ensures) refl

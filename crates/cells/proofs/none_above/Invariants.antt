@@ -1,4 +1,4 @@
-use Prim.Native.Nat.{ℕ, ◌+◌, ◌-◌, ◌≤◌, ◌<◌}
+use Prim.Native.Nat.{ℕ, ◌+◌, ◌<◌}
 use mathlib.Core.Bool.{true}
 use mathlib.Core.Path.{◌≡◌}
 use lib.ListN.{get_or}
@@ -6,7 +6,4 @@ use lib.Ieee.{nan, le}
 use Rattle.cells.proofs.none_above.Given as goal
 
 abbrev pub invariant-loop-k : goal.invariant-loop-k
-invariant-loop-k l = ((j : ℕ) → j < l.k → le (get_or l.costs (l.at + j) nan) l.most ≡ true) × (l.k ≤ 40)
-
-abbrev pub decreases-loop-k : goal.decreases-loop-k
-decreases-loop-k l = 40 - l.k
+invariant-loop-k l = (j : ℕ) → j < l.k → le (get_or l.costs (l.at + j) nan) l.most ≡ true

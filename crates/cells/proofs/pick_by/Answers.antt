@@ -8,33 +8,16 @@ use Rattle.cells.specs.Cell.{pick_at}
 use Rattle.cells.proofs.Ranked.{picked_first, picked_next, picked_last}
 use Rattle.cells.proofs.pick_by.Goals as goal
 
-pub candidate-best-requires : goal.candidate-best-requires
-candidate-best-requires c = (c.requires.0, c.requires.1.0, omega arith)
-
 pub loop-q-init : goal.loop-q-init
 loop-q-init c =
     let a = c.args in
     let order = row_order a.row a.n in
     let first : c.candidate-best.result ≡ pick_at a.dists.now a.rates.now a.lambda 0 (get_or order 0 0) =
-    c.candidate-best.ensures ∙ rw (order_row_is a.row a.n c.requires.1 c.requires.3 0 c.requires.2) refl in (
-      rw first
-          (picked_first a.dists.now a.rates.now a.lambda order (omega (arith, row_length a.row a.n c.requires.1 c.requires.3, c.requires.2))),
-      omega arith,
-      c.requires.2,
-    )
+    c.candidate-best.ensures ∙ rw (order_row_is a.row a.n c.requires.0 c.requires.2 0 c.requires.1) refl in
+    rw first (picked_first a.dists.now a.rates.now a.lambda order (omega (arith, row_length a.row a.n c.requires.0 c.requires.2, c.requires.1)))
 
 pub candidate-next-requires : goal.candidate-next-requires
-candidate-next-requires c =
-    (c.requires.0, c.requires.1.0, omega (arith, c.requires.3))
-
-pub better-best-requires : goal.better-best-requires
-better-best-requires c = tt
-
-pub overflow_add-q : goal.overflow_add-q
-overflow_add-q c = omega (arith, c.requires.3)
-
-pub loop-q-smaller : goal.loop-q-smaller
-loop-q-smaller c = omega arith
+candidate-next-requires c = (c.requires.0.0, omega (arith, c.requires.2))
 
 pub loop-q-preserved : goal.loop-q-preserved
 loop-q-preserved c =
@@ -43,14 +26,14 @@ loop-q-preserved c =
     let order = row_order a.row a.n in
     let inside : l.q < a.n = omega arith in
     let next : c.candidate-next.result ≡ pick_at a.dists.now a.rates.now a.lambda l.q (get_or order l.q 0) =
-    c.candidate-next.ensures ∙ rw (order_row_is a.row a.n c.requires.1 c.requires.3 l.q inside) refl in
+    c.candidate-next.ensures ∙ rw (order_row_is a.row a.n c.requires.0 c.requires.2 l.q inside) refl in
     let turned = picked_next a.dists.now a.rates.now a.lambda order l.q l.best
-    (omega (arith, row_length a.row a.n c.requires.1 c.requires.3)) in
-    (rw (c.better-best.ensures, next) (sym turned ∙ l.invariant.0), omega arith, omega arith)
+    (omega (arith, row_length a.row a.n c.requires.0 c.requires.2)) in
+    rw (c.better-best.ensures, next) (sym turned ∙ l.invariant)
 
 pub returns : goal.returns
 returns c =
     let a = c.args in
     let l = c.loop-q in
     sym (picked_last a.dists.now a.rates.now a.lambda (row_order a.row a.n) l.q l.best
-    (omega (arith, row_length a.row a.n c.requires.1 c.requires.3))) ∙ l.invariant.0
+    (omega (arith, row_length a.row a.n c.requires.0 c.requires.2))) ∙ l.invariant

@@ -1,4 +1,3 @@
-use Prim.Native.Nat.{◌-◌, ◌≤◌}
 use mathlib.Core.Path.{◌≡◌}
 use lib.ListN.{drop}
 use Rattle.rows.specs.Rows.{row_order}
@@ -8,9 +7,5 @@ use Rattle.cells.proofs.pick_by.Given as goal
 
 abbrev pub invariant-loop-q : goal.invariant-loop-q
 invariant-loop-q l =
-    (cheapest (λ (p : Pick). p.total) l.best (ranked l.dists l.rates l.lambda l.q (drop l.q (row_order l.row l.n))) ≡ chosen l.dists l.rates l.lambda
-    (row_order l.row l.n))
-    × (1 ≤ l.q) × (l.q ≤ l.n)
-
-abbrev pub decreases-loop-q : goal.decreases-loop-q
-decreases-loop-q l = l.n - l.q
+    cheapest (λ (p : Pick). p.total) l.best (ranked l.dists l.rates l.lambda l.q (drop l.q (row_order l.row l.n)))
+    ≡ chosen l.dists l.rates l.lambda (row_order l.row l.n)

@@ -10,16 +10,10 @@ use Rattle.cells.proofs.skips_of.Invariants.{due}
 use Rattle.cells.proofs.skips_of.Goals as goal
 
 pub loop-j-init : goal.loop-j-init
-loop-j-init c = (λ k h. absurd (omega arith), refl, omega arith)
+loop-j-init c = (λ k h. absurd (omega arith), refl)
 
 pub bounds-skips-j : goal.bounds-skips-j
 bounds-skips-j c = omega (arith, c.loop-j.invariant.1)
-
-pub overflow_add-j : goal.overflow_add-j
-overflow_add-j c = omega arith
-
-pub loop-j-smaller : goal.loop-j-smaller
-loop-j-smaller c = omega arith
 
 pub loop-j-preserved : goal.loop-j-preserved
 loop-j-preserved c =
@@ -32,7 +26,7 @@ loop-j-preserved c =
     (λ e. rw e (get_or-set_same l.skips l.j new false (omega (arith, l.invariant.1))))
     (λ g. get_or-set_other l.skips l.j k new false (λ e. omega (arith, e, g)) ∙ l.invariant.0 k g)
     (eq-or-lt_of_le h) in
-    (λ k h. at k (omega (arith, h)), length-set l.skips l.j new ∙ l.invariant.1, omega arith)
+    (λ k h. at k (omega (arith, h)), length-set l.skips l.j new ∙ l.invariant.1)
 
 pub returns : goal.returns
-returns c j h = c.loop-j.invariant.0 j (omega (arith, h))
+returns c j h = c.loop-j.invariant.0 j (omega (arith, h, c.loop-j-test.false))

@@ -1,4 +1,4 @@
-use Prim.Native.Nat.{ℕ, ◌-◌, ◌/◌, ◌%◌, ◌≤◌, ◌<◌}
+use Prim.Native.Nat.{ℕ, ◌/◌, ◌%◌, ◌<◌}
 use mathlib.Core.Bool.{Bool, false, ◌||◌}
 use mathlib.Core.Path.{◌≡◌}
 use lib.Dec.{eqb, leb}
@@ -10,7 +10,4 @@ abbrev pub due : ℕ → ℕ → Bool
 due n j = leb n (j % 8) || eqb (j % 8) (j / 8)
 
 abbrev pub invariant-loop-j : goal.invariant-loop-j
-invariant-loop-j l = ((k : ℕ) → k < l.j → get_or l.skips k false ≡ due l.n k) × (length l.skips ≡ 64) × (l.j ≤ 64)
-
-abbrev pub decreases-loop-j : goal.decreases-loop-j
-decreases-loop-j l = 64 - l.j
+invariant-loop-j l = ((k : ℕ) → k < l.j → get_or l.skips k false ≡ due l.n k) × (length l.skips ≡ 64)

@@ -5,8 +5,7 @@ use Rattle.cells.proofs.uniform.Goals as goal
 
 pub overflow_cast-result : goal.overflow_cast-result
 overflow_cast-result c =
-    let a = c.args in
-    omega (arith, c.uniform_bits.ensures, uniform_any a.v a.n 4 (omega (arith, c.requires)))
+    omega (arith, c.uniform_bits.ensures, c.from-2.ensures, uniform_any c.from.result c.from-2.result 4 (omega (arith, c.from-2.ensures, c.requires)))
 
 pub returns : goal.returns
-returns c = rw c.uniform_bits.ensures refl
+returns c = rw (c.uniform_bits.ensures, c.from.ensures, c.from-2.ensures) refl
