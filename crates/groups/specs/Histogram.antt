@@ -49,3 +49,7 @@ pub record IsHistogram (v : List ℕ) (h : Histogram) : Type 0 where
   pub sums : (i : ℕ) → get_or h.s i 0 ≡ get_or h.w i 0 * get_or v i 0
   pub squares : (i : ℕ) → get_or h.q i 0 ≡ get_or h.w i 0 * (get_or v i 0 * get_or v i 0)
   pub cells : sum_to h.w 32 ≤ 4096
+
+-- of some levels, at most 32: which they are is not told, so that a ghost field can hold this
+abbrev pub HasLevels : Histogram → Type 0
+HasLevels h = (h.n ≤ 32) × ∥ ((v : List ℕ) × IsHistogram v h) ∥₁

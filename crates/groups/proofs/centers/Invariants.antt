@@ -5,12 +5,9 @@ use Rattle.groups.specs.Groups.{colors_of}
 use Rattle.groups.proofs.Cuts.{traced}
 use Rattle.groups.proofs.centers.Given as goal
 
--- The invariant: the colours of the groups left, written from the front, make up the whole.
-abbrev pub invariant-loop-left : goal.invariant-loop-left
-invariant-loop-left l =
-    (l.left ≤ l.k) × (l.left ≤ l.j) × (l.j ≤ l.initial.j)
-    × (written l.colors 0 (colors_of l.w l.s l.j (traced l.cuts l.left l.j))
-    ≡ written l.initial.colors 0 (colors_of l.w l.s l.initial.j (traced l.cuts l.k l.initial.j)))
-
-abbrev pub decreases-loop-left : goal.decreases-loop-left
-decreases-loop-left l = l.left
+-- The invariant: the colours of the g groups left, written from the front, make up the whole.
+abbrev pub invariant-loop-g : goal.invariant-loop-g
+invariant-loop-g l =
+    (l.g ≤ l.j) × (l.j ≤ l.initial.j)
+    × (written l.colors 0 (colors_of l.h.w l.h.s l.j (traced l.cuts l.g l.j))
+    ≡ written l.initial.colors 0 (colors_of l.h.w l.h.s l.initial.j (traced l.cuts l.k l.initial.j)))

@@ -27,48 +27,28 @@ record Sums (w s : List ℕ) (i j dw ds : ℕ) : Type 0 where
 
 sums : (c : goal.After-loop-t)
     → let a = c.args in
-    Sums a.w.now a.s.now a.i a.j c.loop-t.dw c.loop-t.ds
+    Sums a.h.now.w a.h.now.s a.i a.j c.loop-t.dw c.loop-t.ds
 sums c =
     let l = c.loop-t in
     let a = c.args in
+    let h = a.h.now in
     let e : l.t ≡ a.j = omega arith in
-    let dw : l.dw + sum_to a.w.now a.i ≡ sum_to a.w.now a.j = rw e at l.invariant.2 in
-    let ds : l.ds + sum_to a.s.now a.i ≡ sum_to a.s.now a.j = rw e at l.invariant.3 in
-    let w : l.dw ≡ sum_in a.w.now a.i a.j = omega arith in
-    let s : l.ds ≡ sum_in a.s.now a.i a.j = omega arith in
+    let dw : l.dw + sum_to h.w a.i ≡ sum_to h.w a.j = rw e at l.invariant.0 in
+    let ds : l.ds + sum_to h.s a.i ≡ sum_to h.s a.j = rw e at l.invariant.1 in
+    let w : l.dw ≡ sum_in h.w a.i a.j = omega arith in
+    let s : l.ds ≡ sum_in h.s a.i a.j = omega arith in
     record { weight = w; sum = s; some = omega arith; few = omega arith; mean = rw (w, s) c.requires.4 }
 
-pub loop-t-init : goal.loop-t-init
-loop-t-init c = (omega arith, omega arith, omega arith, omega arith)
-
-pub offset_bounds-w-t : goal.offset_bounds-w-t
-offset_bounds-w-t c = omega arith
-
-pub bounds-w-t : goal.bounds-w-t
-bounds-w-t c = omega arith
-
 pub overflow_add-dw : goal.overflow_add-dw
-overflow_add-dw c = omega (arith, more c.args.w.now c.loop-t.t c.args.j c.loop-t-test.true)
-
-pub offset_bounds-s-t : goal.offset_bounds-s-t
-offset_bounds-s-t c = omega arith
-
-pub bounds-s-t : goal.bounds-s-t
-bounds-s-t c = omega arith
+overflow_add-dw c = omega (arith, more c.args.h.now.w c.loop-t.t c.args.j c.loop-t-test.true)
 
 pub overflow_add-ds : goal.overflow_add-ds
-overflow_add-ds c = omega (arith, more c.args.s.now c.loop-t.t c.args.j c.loop-t-test.true)
-
-pub overflow_add-t : goal.overflow_add-t
-overflow_add-t c = omega arith
-
-pub loop-t-smaller : goal.loop-t-smaller
-loop-t-smaller c = omega arith
+overflow_add-ds c = omega (arith, more c.args.h.now.s c.loop-t.t c.args.j c.loop-t-test.true)
 
 pub loop-t-preserved : goal.loop-t-preserved
 loop-t-preserved c =
     let m = λ (xs : List ℕ). more xs c.loop-t.t c.args.j c.loop-t-test.true in
-    (omega arith, omega arith, omega (arith, m c.args.w.now), omega (arith, m c.args.s.now))
+    (omega (arith, m c.args.h.now.w), omega (arith, m c.args.h.now.s))
 
 pub overflow_mul-result : goal.overflow_mul-result
 overflow_mul-result c = omega (arith, sums c)

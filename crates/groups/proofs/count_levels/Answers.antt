@@ -1,11 +1,11 @@
-use mathlib.Core.Path.{◌≡◌, refl, sym, ap, ◌∙◌}
+use mathlib.Core.Path.{◌≡◌, refl, sym, ◌∙◌}
 use mathlib.Core.List.{List, [], map}
 use Prim.Native.Nat.{ℕ, ◌+◌, ◌≤◌, ◌<◌}
 use native.Mathlib.Numerals.{add-one}
 use native.Mathlib.Nat.{zero-add, add-zero}
 use native.Mathlib.Omega.{arith}
 use lib.Dec.{eqb}
-use lib.ListN.{get_or, drop, length, length-set, length-map, length-replicate, get_or-replicate, drop_of_length-le}
+use lib.ListN.{get_or, drop, length, length-map, get_or-replicate, drop_of_length-le}
 use lib.Seq.{drop-cons}
 use lib.Ieee.{Float, nan}
 use Rattle.lists.specs.Counted.{bit}
@@ -31,49 +31,43 @@ few xs n left v short e =
     let m = length-map xs level_of in
     omega (arith, occurs_le (map level_of xs) v, m, e, short)
 
-pub loop-i-init : goal.loop-i-init
-loop-i-init c =
-    let e = c.requires.counts_value in (
-      omega arith,
-      ap length e ∙ length-replicate {A = ℕ} 4096 0,
-      λ v h. rw (e, get_or-replicate {A = ℕ} 4096 v 0 0 h, zero-add) refl,
-    )
+pub loop-x-init : goal.loop-x-init
+loop-x-init c = λ v h. rw (c.requires.counts_value, get_or-replicate {A = ℕ} 4096 v 0 0 h, zero-add) refl
 
 pub overflow_add-counts : goal.overflow_add-counts
 overflow_add-counts c =
     let xs = c.args.samples.now in
-    let l = c.loop-i in
-    let r = c.level_of-v.result in
-    let w = c.requires.samples_len_bound.1 l.i c.loop-i-test.true in
-    let s = level_small (get_or xs l.i nan) r w c.level_of-v.ensures in
+    let l = c.loop-x in
+    let r = c.from-v.result in
+    let w = c.requires.samples_len_bound.1 l.x-index c.loop-x-test.true in
+    let s = level_small (get_or xs l.x-index nan) r w (c.from-v.ensures ∙ c.level_of.ensures) in
     omega (
       arith,
-      few xs (get_or l.counts r 0) (occurs (map level_of (drop l.i xs)) r) r
-          c.requires.samples_len_bound.0 (l.invariant.2 r s),
+      few xs (get_or l.counts r 0) (occurs (map level_of (drop l.x-index xs)) r) r
+          c.requires.samples_len_bound.0 (l.invariant r s),
     )
 
-pub loop-i-preserved : goal.loop-i-preserved
-loop-i-preserved c =
+pub loop-x-preserved : goal.loop-x-preserved
+loop-x-preserved c =
     let xs = c.args.samples.now in
-    let l = c.loop-i in
-    let x = c.level_of-v.result in
-    let w = c.requires.samples_len_bound.1 l.i c.loop-i-test.true in
-    let s = level_small (get_or xs l.i nan) x w c.level_of-v.ensures in
-    let in-counts : x < length l.counts = rw l.invariant.1 s in (
-      omega arith,
-      length-set l.counts x _ ∙ l.invariant.1,
-      λ v h. omega (
-        arith,
-        counted l.counts x v in-counts,
-        next_cell xs l.i x v c.loop-i-test.true c.level_of-v.ensures,
-        l.invariant.2 v h,
-      ),
+    let l = c.loop-x in
+    let i = l.x-index in
+    let x = c.from-v.result in
+    let is : x ≡ level_of (get_or xs i nan) = c.from-v.ensures ∙ c.level_of.ensures in
+    let w = c.requires.samples_len_bound.1 i c.loop-x-test.true in
+    let s = level_small (get_or xs i nan) x w is in
+    let in-counts : x < length l.counts = omega arith in
+    λ v h. omega (
+      arith,
+      counted l.counts x v in-counts,
+      next_cell xs i x v c.loop-x-test.true is,
+      l.invariant v h,
     )
 
 pub returns : goal.returns
 unfolding occurs
 returns c =
-    let l = c.loop-i in
+    let l = c.loop-x in
     let xs = c.args.samples.now in
-    let e : drop l.i xs ≡ [] = drop_of_length-le xs {i = l.i} (omega arith) in
-    λ v h. sym (add-zero _) ∙ (rw e at (l.invariant.2 v h))
+    let e : drop l.x-index xs ≡ [] = drop_of_length-le xs {i = l.x-index} (omega arith) in
+    λ v h. sym (add-zero _) ∙ (rw e at (l.invariant v h))

@@ -1,5 +1,5 @@
 use mathlib.Core.Path.{◌≡◌}
-use Prim.Native.Nat.{◌-◌, ◌≤◌}
+use Prim.Native.Nat.{◌≤◌}
 use lib.ListN.{get_or}
 use Rattle.groups.specs.Histogram.{gathered}
 use Rattle.groups.proofs.gather.Given as goal
@@ -7,7 +7,4 @@ use Rattle.groups.proofs.gather.Given as goal
 -- The invariant: the histogram of the levels below v.
 abbrev pub invariant-loop-v : goal.invariant-loop-v
 invariant-loop-v l =
-    (l.v ≤ l.top) × (l.n ≤ l.v) × (record { n = l.n; w = l.w; s = l.s; q = l.q } ≡ gathered (λ x. get_or l.counts x 0) l.v)
-
-abbrev pub decreases-loop-v : goal.decreases-loop-v
-decreases-loop-v l = l.top - l.v
+    (l.n ≤ l.v) × (record { n = l.n; w = l.w; s = l.s; q = l.q } ≡ gathered (λ x. get_or l.counts x 0) l.v)
