@@ -1,56 +1,27 @@
 use mathlib.Core.Path.{◌≡◌, refl}
-use Prim.Native.Nat.{ℕ, ◌+◌, ◌≤◌}
+use Prim.Native.Nat.{◌+◌, ◌≤◌}
 use native.Mathlib.Omega.{arith}
-use lib.ListN.{length, take}
-use lib.Seq.{length-take-le}
-use Rattle.lists.proofs.Rest.{next, done}
 use Rattle.literals.specs.Literals.{literal_bits}
-use Rattle.literals.proofs.Colors.{eight}
+use Rattle.literals.proofs.Colors.{none_at_all, one_width, all_widths}
 use Rattle.literals.proofs.Widths.{literal_bits_le}
-use borrow.Author.Rules.{rules}
 use Rattle.literals.proofs.literal_bits.Goals as goal
-use Rattle.literals.proofs.literal_bits.Goals.{After-steps_width, Start}
+use Rattle.literals.proofs.literal_bits.Goals.{After-steps_width}
 
-room : (s : Start) → s.args.n ≤ length s.args.colors
-room s = eight _ s.args.colors _ s.well_formed.0 s.requires.0
+total : (c : After-steps_width) → c.args.bd + 2 + c.steps_width.result ≡ literal_bits c.args.bd c.args.colors.now
+total c = rw (c.steps_width.ensures, c.step_bits.ensures.0, all_widths c.args.bd c.args.colors.now c.in-len1-up.len_at_least) refl
 
-abbrev bits : Start → ℕ
-bits s = literal_bits s.args.bd (take s.args.n s.args.colors)
+small : (c : After-steps_width) → c.args.bd + 2 + c.steps_width.result ≤ 98
+small c = omega (arith, total c, c.requires, literal_bits_le c.args.bd c.requires.2 c.args.colors.now c.requires.3)
 
-small : (s : Start) → bits s ≤ 98
-small s =
-    omega (
-      arith,
-      length-take-le s.args.n s.args.colors (room s),
-      literal_bits_le s.args.bd s.requires.2 (take s.args.n s.args.colors) s.requires.3,
-    )
+pub overflow_add-result-in-len1-up : goal.overflow_add-result-in-len1-up
+overflow_add-result-in-len1-up c = omega (arith, small c)
 
-total : (c : After-steps_width) →
-    c.args.bd + 2 + c.steps_width.result ≡ bits c.before.before.before.before
+pub returns-in-empty : goal.returns-in-empty
 unfolding literal_bits
-total c =
-    let left = next c.args.n c.args.colors (room c.before.before.before.before) in
-    rw (c.steps_width.ensures, c.step_bits.ensures.0, left 0 (omega arith), left 1 (omega arith)) refl
+returns-in-empty c = rw (none_at_all c.args.colors.now c.in-empty.len_below) (refl, omega arith)
 
-pub returns-then-n-eq0 : goal.returns-then-n-eq0
-unfolding literal_bits
-returns-then-n-eq0 c = (rw c.if-n-eq0.true refl, search rules)
+pub returns-in-len1 : goal.returns-in-len1
+returns-in-len1 c = rw (one_width c.args.bd c.args.colors.now c.in-len1.len_at_least c.in-len1.len_below) (refl, omega (arith, c.requires))
 
-pub returns-then-n-eq1 : goal.returns-then-n-eq1
-unfolding literal_bits
-returns-then-n-eq1 c =
-    let one = next c.args.n c.args.colors (room c.before.before) 0 (omega arith) in
-    let none = done c.args.n c.args.colors (room c.before.before) 1 (omega arith) in
-    (rw (one, none) refl, search rules)
-
-pub step_bits-requires : goal.step_bits-requires
-step_bits-requires c = (omega arith, c.requires.0, c.requires.1, c.requires.3)
-
-pub steps_width-requires : goal.steps_width-requires
-steps_width-requires c = (c.requires.0, c.requires.2, c.step_bits.ensures.2, c.requires.3)
-
-pub overflow_add-result-2 : goal.overflow_add-result-2
-overflow_add-result-2 c = omega (arith, total c, small c.before.before.before.before)
-
-pub returns : goal.returns
-returns c = (total c, omega (arith, total c, small c.before.before.before.before))
+pub returns-in-len1-up : goal.returns-in-len1-up
+returns-in-len1-up c = (total c, small c)
