@@ -1,6 +1,7 @@
 -- The steps of `color_ctx`: what a neighbour tells, and how its answers make up `context_of`. Assumes nothing.
+use Rattle.std.specs.Prelude.{Option, Some, None}
 use mathlib.Core.Path.{◌≡◌, refl, sym, ap, ◌∙◌}
-use mathlib.Core.Bool.{Bool, true, false, cond, ◌&&◌}
+use mathlib.Core.Bool.{Bool, true, false, cond}
 use mathlib.Core.List.{List, [], ◌∷◌}
 use Prim.Native.Nat.{ℕ, zero, suc, ◌+◌, ◌-◌, ◌*◌, ◌≤◌, ◌<◌, min}
 use native.Mathlib.Nat.{suc-mul}
@@ -17,52 +18,40 @@ use Rattle.color_ctx.specs.Context.{used, usable, context_ok, answered, refused,
 use Rattle.color_ctx.specs.Parts.{neighbour_at, one_at, three_at}
 use Rattle.color_ctx.specs.declared.Context.{Context}
 use Rattle.context.specs.declared.Index.{Index}
-use Rattle.color_ctx.specs.declared.Neighbour.{Neighbour}
-use Rattle.color_ctx.specs.declared.Neighbour.TheVariants.{Color, Nothing}
 
 -- ---- what `neighbour_at` tells
 
-color_by : (b : Bool) (v : ℕ) (i : Index) → cond b (Color (record { 0 = v })) Nothing ≡ Color i → (b ≡ true) × (v ≡ i.0)
-color_by true v i e = (refl, (let q : ◌≡◌ {A = Index} (record { 0 = v }) i = cc in ap (λ (j : Index). j.0) q))
-color_by false v i e = let z : ◌≡◌ {A = ℕ} 0 1 = cc in absurd (omega arith)
+found_by : (b : Bool) (v : ℕ) (i : Index) → cond b (Some (record { 0 = v })) None ≡ Some i → (b ≡ true) × (v ≡ i.0)
+found_by true v i e = (refl, (let q : ◌≡◌ {A = Index} (record { 0 = v }) i = cc in ap (λ (j : Index). j.0) q))
+found_by false v i e = absurd (cc)
 
-nothing_by : (b : Bool) (v : ℕ) → cond b (Color (record { 0 = v })) Nothing ≡ Nothing → b ≡ false
-nothing_by true v e = let z : ◌≡◌ {A = ℕ} 0 1 = cc in absurd (omega arith)
-nothing_by false v e = refl
+none_by : (b : Bool) (v : ℕ) → ◌≡◌ {A = Option Index} (cond b (Some (record { 0 = v })) None) None → b ≡ false
+none_by true v e = absurd (cc)
+none_by false v e = refl
 
 -- there is a neighbour at place p, of index v
 abbrev pub Known : List ℕ → ℕ → ℕ → ℕ → Type 0
 Known map n p v = (usable map n p ≡ true) × (get_or map p 0 ≡ v) × (v < n)
 
-module _ {r : Neighbour} (map : List ℕ) (n p : ℕ) (e : r ≡ neighbour_at map n p) where
-  pub color_is : (i : Index) → r ≡ Color i → Known map n p i.0
-  unfolding neighbour_at
-  color_is i q =
-      let f = color_by (usable map n p) (get_or map p 0) i (sym e ∙ q) in
+module _ {r : Option Index} (map : List ℕ) (n p : ℕ) (e : r ≡ neighbour_at map n p) where
+  pub found_is : (i : Index) → r ≡ Some i → Known map n p i.0
+  found_is i q =
+      let f = found_by (usable map n p) (get_or map p 0) i (sym e ∙ q) in
       let below : get_or map p 0 < n = ltb-true _ _ (and_r (ltb p (length map)) (ltb (get_or map p 0) n) f.0) in
       (f.0, f.1, omega (arith, f.1))
 
-  pub nothing_is : r ≡ Nothing → usable map n p ≡ false
-  unfolding neighbour_at
-  nothing_is q = nothing_by (usable map n p) (get_or map p 0) (sym e ∙ q)
+  pub none_is : r ≡ None → usable map n p ≡ false
+  none_is q = none_by (usable map n p) (get_or map p 0) (sym e ∙ q)
 
 -- ---- one neighbour is as three equal ones, but for the context
 
+-- what one neighbour answers, by what three equal ones do
 abbrev pub edge : Context → Context
 edge c = record { number = c.number; ctx = 0; order = c.order; ranks = c.ranks }
 
-edge_answer_holds : (v n : ℕ) → edge (answered (by_three v v v) n) ≡ answered (record { ctx = 0; firsts = v ∷ [] }) n
+pub edge_answer_holds : (v n : ℕ) → edge (answered (by_three v v v) n) ≡ answered (record { ctx = 0; firsts = v ∷ [] }) n
 unfolding answered by_three choose order_of rank_of
 edge_answer_holds v n = rw (eq-eqb v v refl) refl
-
-edge_by : (b : Bool) (x y : Context) → edge x ≡ y
-    → edge (cond (b && (b && (b && true))) x refused) ≡ cond (b && true) y refused
-edge_by true x y e = e
-edge_by false x y e = refl
-
-pub one_three : (map : List ℕ) (n p : ℕ) → edge (three_at map n p p p) ≡ one_at map n p
-unfolding three_at one_at all_in
-one_three map n p = edge_by (usable map n p) _ _ (edge_answer_holds (get_or map p 0) n)
 
 -- ---- past the map's end
 

@@ -1,14 +1,18 @@
 -- What the steps of `color_ctx` answer.
-use Rattle.std.specs.Prelude.{ℕ, cond, List, [], ◌∷◌, get_or}
+use Rattle.std.specs.Prelude.{ℕ, cond, List, [], ◌∷◌, get_or, Option, Some, None}
 use Rattle.lists.specs.Counted.{all_in}
 use Rattle.context.specs.Order.{by_three}
 use Rattle.color_ctx.specs.Context.{usable, answered, refused}
 use Rattle.color_ctx.specs.declared.Context.{Context}
-use Rattle.color_ctx.specs.declared.Neighbour.{Neighbour}
-use Rattle.color_ctx.specs.declared.Neighbour.TheVariants.{Color, Nothing}
+use Rattle.context.specs.declared.Index.{Index}
 
-unfoldable pub neighbour_at : List ℕ → ℕ → ℕ → Neighbour
-neighbour_at map n p = cond (usable map n p) (Color (record { 0 = get_or map p 0 })) Nothing
+abbrev pub neighbour_at : List ℕ → ℕ → ℕ → Option Index
+neighbour_at map n p = cond (usable map n p) (Some (record { 0 = get_or map p 0 })) None
+
+-- the answer as it is handed out
+abbrev pub told : Option Context → Context
+told (Some c) = c
+told None = refused
 
 -- from the neighbour at place p, on the top row or in the left column
 unfoldable pub one_at : List ℕ → ℕ → ℕ → Context

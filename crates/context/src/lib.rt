@@ -10,7 +10,7 @@ ghost use Rattle.context.specs.Map.{lines_of, length_of};
 pub struct Index(pub u8);
 
 // A rank: the place of an index in a context's order.
-#[derive(Drop)]
+#[derive(Clone, Copy)]
 pub struct Rank(pub u8);
 
 // A level: the value of a sample or a colour.

@@ -1,5 +1,4 @@
 use mathlib.Core.Path.{◌≡◌}
-use Prim.Native.Nat.{◌-◌, ◌≤◌}
 use Rattle.context.specs.Order.{order_of}
 use Rattle.rows.specs.Rows.{around_row}
 use Rattle.color_ctx.specs.Context.{ranks_of}
@@ -7,8 +6,4 @@ use Rattle.color_ctx.proofs.Filling.{filling}
 use Rattle.color_ctx.proofs.answer.Given as goal
 
 abbrev pub invariant-loop-i : goal.invariant-loop-i
-invariant-loop-i l =
-    (l.i ≤ l.n) × (l.order ≡ filling (order_of (around_row l.row) l.n) l.i) × (l.ranks ≡ filling (ranks_of (around_row l.row) l.n) l.i)
-
-abbrev pub decreases-loop-i : goal.decreases-loop-i
-decreases-loop-i l = l.n - l.i
+invariant-loop-i l = (l.order ≡ filling (order_of (around_row l.row) l.n) l.i) × (l.ranks ≡ filling (ranks_of (around_row l.row) l.n) l.i)
