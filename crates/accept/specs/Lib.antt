@@ -1,3 +1,4 @@
 pub mod Palette
 pub mod Accepted
 pub mod Answer
+pub mod Mapped

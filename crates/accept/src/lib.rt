@@ -4,18 +4,20 @@
 
 ghost use Rattle.std.specs.Prelude.{◌≡◌, ◌&&◌, ◌+◌, ◌*◌, ◌<◌, ◌≤◌, eqb, ltb, leb, length, take, get_or};
 ghost use Rattle.lists.specs.Counted.{within, all_below, all_in};
-ghost use Rattle.context.specs.Map.{row_at, col_at, lines_of, length_of, line_cell};
+ghost use Rattle.context.specs.Map.{row_at, col_at, lines_of};
 ghost use Rattle.literals.specs.Literals.{levels_ok};
-ghost use Rattle.refusals.specs.Numbers.{number_of};
-ghost use Rattle.accept.specs.Palette.{first_colors, palette_of};
+ghost use Rattle.refusals.specs.Numbers.{number, number_of};
+ghost use Rattle.accept.specs.Palette.{first_colors};
+ghost use Rattle.accept.specs.Mapped.{palette_in, cells_in, length_in};
 ghost use Rattle.accept.specs.Answer.{rooms_ok, refused_by};
-ghost use Rattle.accept.specs.Accepted.{sides_ok, colors_ok, orient_ok, line_ok, refusal};
+ghost use Rattle.accept.specs.Accepted.{sides_ok, colors_ok, orient_ok, counts_ok, line_ok, map_ok, refusal};
 
-use context::{Index, Level};
 use refusals::Refusal;
 
 // The answer: number 0 with the colours, their count and the orientation, or a refusal with zeros; and, where search made
 // it, the bits that it counted for colours and map. `search::estimate` makes one figure of the two.
+// Stays (1): `station` hands C these fields, number first, and the contracts of search, strip and reading name them.
+// Stays (6): no heap, so that the colours are the first n of eight, here and in `Mapped`.
 #[derive(Clone, Copy)]
 pub struct Palette {
     pub number: u32,
@@ -29,19 +31,13 @@ pub struct Palette {
 pub fn within(low: usize, high: usize, x: usize) -> bool
     ensures { result ≡ within low high x }
 {
-    if x < low {
-        return false;
-    }
-    x <= high
+    low <= x && x <= high
 }
 
 pub fn sides_ok(width: usize, height: usize) -> bool
     ensures { result ≡ sides_ok width height }
 {
-    if within(1, 64, width) {
-        return within(1, 64, height);
-    }
-    false
+    within(1, 64, width) && within(1, 64, height)
 }
 
 // Number 7: room for the cells, and for the flags of either orientation.
@@ -49,55 +45,7 @@ pub fn rooms_ok(width: usize, height: usize, cells: usize, lines: usize) -> bool
     requires { (width ≤ 64) × (height ≤ 64) }
     ensures { result ≡ rooms_ok width height cells lines }
 {
-    if cells < width * height {
-        return false;
-    }
-    if lines < width {
-        return false;
-    }
-    height <= lines
-}
-
-// Whether `level` is above `low` and not above `top`.
-fn between(low: Level, level: Level, top: Level) -> bool
-    ensures { result ≡ (ltb low.0 level.0 && leb level.0 top.0) }
-{
-    if level.0 <= low.0 {
-        return false;
-    }
-    level.0 <= top.0
-}
-
-// Whether the first n colours are strictly ascending, none above the top level.
-fn levels_ok(colors: [u16; 8], n: usize, bd: u32) -> bool
-    requires { (1 ≤ n) × (n ≤ 8) × (bd ≤ 12) }
-    ensures { result ≡ levels_ok bd (take n colors) }
-{
-    let top = literals::top_level(bd);
-    let mut last = Level(colors[0]);
-    if top.0 < last.0 {
-        return false;
-    }
-    let mut i: usize = 1;
-    while i < n {
-        let level = Level(colors[i]);
-        if !between(last, level, top) {
-            return false;
-        }
-        last = level;
-        i += 1;
-    }
-    true
-}
-
-fn colors_ok(colors: [u16; 8], n: usize, bd: u32) -> bool
-    requires { bd ≤ 12 }
-    ensures { result ≡ colors_ok bd (first_colors colors n) }
-{
-    if within(2, 8, n) {
-        return levels_ok(colors, n, bd);
-    }
-    false
+    width * height <= cells && width.max(height) <= lines
 }
 
 // A transposed palette sends its orientation.
@@ -107,143 +55,161 @@ pub fn orient_ok(width: usize, height: usize, transposed: bool) -> bool
     !transposed | counts::orient_sent(width, height)
 }
 
-// Whether there is one index for each cell, and one flag for each line.
-fn counts_ok(width: usize, height: usize, transposed: bool, cells: usize, lines: usize) -> bool
-    requires { (width ≤ 64) × (height ≤ 64) }
-    ensures { result ≡ (eqb cells (width * height) && eqb lines (lines_of transposed width height)) }
+// Whether the colours are strictly ascending, none above the top level.
+fn levels_ok(colors: &[u16], bd: u32) -> bool
+    requires { (1 ≤ length colors.now) × (bd ≤ 12) }
+    ensures { result ≡ levels_ok bd colors.now }
 {
-    if cells != width * height {
-        return false;
-    }
-    lines == context::lines_of(transposed, width, height)
-}
-
-// Whether every index is below n. It looks at all of them: without a way out the loop is quicker.
-fn indices_ok(map: &[u8], n: u8) -> bool
-    ensures { result ≡ all_in (λ i. ltb i n) map.now }
-{
-    let mut ok = true;
-    let mut i: usize = 0;
-    while i < map.len() {
-        ok = ok & (map[i] < n);
-        i += 1;
+    let top = literals::top_level(bd).0;
+    let mut last = colors[0];
+    let mut ok = last <= top;
+    for color in &colors[1..] {
+        ok = ok & (last < *color) & (*color <= top);
+        last = *color;
     }
     ok
 }
 
-// The index at place a of line l.
-fn index_at(map: &[u8], width: usize, transposed: bool, l: usize, a: usize) -> Index
-    requires { row_at transposed l a * width + col_at transposed l a < length map.now }
-    ensures { result.0 ≡ line_cell transposed map.now width l a }
-{
-    if transposed {
-        return Index(map[a * width + l]);
-    }
-    Index(map[l * width + a])
+// A block with the palette that is to stand for it: its sides and depth, the first n of eight colours, the orientation, an
+// index for each cell and a flag for each line.
+#[derive(Clone, Copy)]
+pub struct Mapped<'a> {
+    pub width: usize,
+    pub height: usize,
+    pub bd: u32,
+    pub colors: [u16; 8],
+    pub n: usize,
+    pub transposed: bool,
+    pub map: &'a [u8],
+    pub flags: &'a [u8],
 }
 
-// Whether line l equals line `other` place by place (step 1), or the first place of `other` throughout (step 0). It looks at
-// all places: without a way out the loop is quicker.
-fn line_matches(
-    map: &[u8],
-    width: usize,
-    height: usize,
-    transposed: bool,
-    l: usize,
-    other: usize,
-    step: usize,
-) -> bool
-    requires map_len { length map.now ≡ width * height }
-    requires l_bound { (l < lines_of transposed width height) × (other < lines_of transposed width height) × (step ≤ 1) }
-    ensures { result ≡ all_below (λ a. eqb (line_cell transposed map.now width l a)
-        (line_cell transposed map.now width other (a * step))) (length_of transposed width height) }
-{
-    let len = context::length_of(transposed, width, height);
-    let mut same = true;
-    let mut a: usize = 0;
-    while a < len {
-        let here = index_at(map, width, transposed, l, a);
-        let there = index_at(map, width, transposed, other, a * step);
-        same = same & (here.0 == there.0);
-        a += 1;
+impl Mapped<'_> {
+    // The first test that fails. It reads, and writes nothing.
+    pub fn fault(&self, cached: usize) -> Result<(), Refusal>
+        ensures { number result ≡ refusal self.now.width self.now.height self.now.bd cached (palette_in self.now) }
+    {
+        if !sides_ok(self.width, self.height) {
+            return Err(Refusal::Side);
+        }
+        if !within(8, 12, self.bd as usize) {
+            return Err(Refusal::Depth);
+        }
+        if !self.colors_ok() {
+            return Err(Refusal::Colors);
+        }
+        if !orient_ok(self.width, self.height, self.transposed) {
+            return Err(Refusal::Orientation);
+        }
+        if 64 < cached {
+            return Err(Refusal::Cache);
+        }
+        if !self.counts_ok() {
+            return Err(Refusal::Lengths);
+        }
+        if !self.map_ok() {
+            return Err(Refusal::Map);
+        }
+        Ok(())
     }
-    same
-}
 
-// Whether line l is as its flag says.
-fn line_ok(map: &[u8], width: usize, height: usize, transposed: bool, l: usize, flag: u8) -> bool
-    requires { (length map.now ≡ width * height) × (l < lines_of transposed width height) }
-    ensures { result ≡ line_ok flag (line_cell transposed map.now width) (length_of transposed width height) l }
-{
-    match flag {
-        0 => true,
-        1 => line_matches(map, width, height, transposed, l, l, 0),
-        2 => {
-            if l == 0 {
+    fn colors_ok(&self) -> bool
+        requires { self.now.bd ≤ 12 }
+        ensures { result ≡ colors_ok self.now.bd (first_colors self.now.colors self.now.n) }
+    {
+        within(2, 8, self.n) && levels_ok(&self.colors[..self.n], self.bd)
+    }
+
+    // Whether there is one index for each cell, and one flag for each line.
+    fn counts_ok(&self) -> bool
+        requires { (self.now.width ≤ 64) × (self.now.height ≤ 64) }
+        ensures { result ≡ counts_ok self.now.width self.now.height (palette_in self.now) }
+    {
+        let lines = context::lines_of(self.transposed, self.width, self.height);
+        self.map.len() == self.width * self.height && self.flags.len() == lines
+    }
+
+    fn map_ok(&self) -> bool
+        requires few { self.now.n ≤ 8 }
+        requires map_len { length self.now.map.now ≡ self.now.width * self.now.height }
+        requires flags_len { length self.now.flags.now ≡ lines_of self.now.transposed self.now.width self.now.height }
+        ensures { result ≡ map_ok self.now.width self.now.height (palette_in self.now) }
+    {
+        self.indices_ok() && self.lines_ok()
+    }
+
+    // Whether every index is below n. It looks at all of them: without a way out the loop is quicker.
+    fn indices_ok(&self) -> bool
+        requires { self.now.n < 256 }
+        ensures { result ≡ all_in (λ i. ltb i self.now.n) self.now.map.now }
+    {
+        let n = self.n as u8;
+        let mut ok = true;
+        for index in self.map {
+            ok &= *index < n;
+        }
+        ok
+    }
+
+    // Whether every line is as its flag says.
+    fn lines_ok(&self) -> bool
+        requires map_len { length self.now.map.now ≡ self.now.width * self.now.height }
+        requires flags_len { length self.now.flags.now ≡ lines_of self.now.transposed self.now.width self.now.height }
+        ensures { result ≡ all_below (λ l. line_ok (get_or self.now.flags.now l 0) (cells_in self.now)
+            (length_in self.now) l) (lines_of self.now.transposed self.now.width self.now.height) }
+    {
+        for (l, flag) in self.flags.iter().enumerate() {
+            if !self.line_ok(l, *flag) {
                 return false;
             }
-            line_matches(map, width, height, transposed, l, l - 1, 1)
         }
-        _ => false,
+        true
     }
-}
 
-// Whether every line is as its flag says.
-fn lines_ok(map: &[u8], flags: &[u8], width: usize, height: usize, transposed: bool) -> bool
-    requires map_len { length map.now ≡ width * height }
-    requires flags_len { length flags.now ≡ lines_of transposed width height }
-    ensures { result ≡ all_below (λ l. line_ok (get_or flags.now l 0) (line_cell transposed map.now width)
-        (length_of transposed width height) l) (lines_of transposed width height) }
-{
-    let mut l: usize = 0;
-    while l < flags.len() {
-        if !line_ok(map, width, height, transposed, l, flags[l]) {
-            return false;
+    // Whether line l is as its flag says.
+    fn line_ok(&self, l: usize, flag: u8) -> bool
+        requires map_len { length self.now.map.now ≡ self.now.width * self.now.height }
+        requires l_bound { l < lines_of self.now.transposed self.now.width self.now.height }
+        ensures { result ≡ line_ok flag (cells_in self.now) (length_in self.now) l }
+    {
+        match flag {
+            0 => true,
+            1 => self.line_matches(l, l, 0),
+            2 => {
+                if l == 0 {
+                    return false;
+                }
+                self.line_matches(l, l - 1, 1)
+            }
+            _ => false,
         }
-        l += 1;
     }
-    true
-}
 
-// The number of the first test that fails, or 0. It reads, and writes nothing.
-pub fn fault(
-    width: usize,
-    height: usize,
-    bd: u32,
-    colors: [u16; 8],
-    n: usize,
-    transposed: bool,
-    map: &[u8],
-    flags: &[u8],
-    cached: usize,
-) -> u32
-    ensures { result ≡ refusal width height bd cached (palette_of colors n transposed map.now flags.now) }
-{
-    if !sides_ok(width, height) {
-        return 1;
+    // Whether line l equals line `other` place by place (step 1), or the first place of `other` throughout (step 0). It looks
+    // at all places: without a way out the loop is quicker.
+    fn line_matches(&self, l: usize, other: usize, step: usize) -> bool
+        requires map_len { length self.now.map.now ≡ self.now.width * self.now.height }
+        requires l_bound { (l < lines_of self.now.transposed self.now.width self.now.height)
+            × (other < lines_of self.now.transposed self.now.width self.now.height) × (step ≤ 1) }
+        ensures { result ≡ all_below (λ a. eqb (cells_in self.now l a) (cells_in self.now other (a * step))) (length_in self.now) }
+    {
+        let mut same = true;
+        for a in 0..context::length_of(self.transposed, self.width, self.height) {
+            same &= self.index_at(l, a) == self.index_at(other, a * step);
+        }
+        same
     }
-    if !within(8, 12, bd as usize) {
-        return 2;
+
+    // The index at place a of line l.
+    fn index_at(&self, l: usize, a: usize) -> u8
+        requires { row_at self.now.transposed l a * self.now.width + col_at self.now.transposed l a < length self.now.map.now }
+        ensures { result ≡ cells_in self.now l a }
+    {
+        if self.transposed {
+            return self.map[a * self.width + l];
+        }
+        self.map[l * self.width + a]
     }
-    if !colors_ok(colors, n, bd) {
-        return 11;
-    }
-    if !orient_ok(width, height, transposed) {
-        return 12;
-    }
-    if 64 < cached {
-        return 13;
-    }
-    if !counts_ok(width, height, transposed, map.len(), flags.len()) {
-        return 14;
-    }
-    if !indices_ok(map, n as u8) {
-        return 15;
-    }
-    if !lines_ok(map, flags, width, height, transposed) {
-        return 15;
-    }
-    0
 }
 
 // Zeros in every field.

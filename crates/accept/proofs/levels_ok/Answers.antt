@@ -1,74 +1,32 @@
-use mathlib.Core.Bool.{◌&&◌}
-use mathlib.Core.Path.{◌≡◌, refl, sym, ap, ◌∙◌}
-use Prim.Native.Nat.{◌≤◌, ◌-◌, ◌+◌, ◌^◌}
-use native.Mathlib.Omega.{arith}
-use mir.Syntax.{w16}
-use borrow.Author.Rules.{rules}
-use borrow.Author.Tests.{lt-leb, le-leb}
-use borrow.Kind.Array.{good_length, e_int}
-use lib.Dec.{leb}
-use lib.ListN.{length, get_or, take, drop}
-use Rattle.lists.proofs.Rest.{next, done}
+use mathlib.Core.Bool.{and_assoc, and-true}
+use lib.ListN.{drop_of_length-le}
+use Rattle.std.proofs.Common.{List, ℕ, ◌≡◌, sym, ap, ◌∙◌, [], ◌∷◌, ◌+◌, ◌-◌, ◌≤◌, add-one, get_or, length, take, drop, drop-cons, arith}
+use Rattle.std.proofs.lemmas.Grind.{common_steps}
 use Rattle.lists.specs.Counted.{above, all_in}
 use Rattle.literals.specs.Literals.{levels_ok}
 use Rattle.accept.proofs.Levels.{levels_after, levels_first, levels_next}
 use Rattle.accept.proofs.levels_ok.Goals as goal
-use Prim.Native.Nat.{ℕ, ◌<◌}
-use mathlib.Core.List.{List}
-use mathlib.Core.Bool.{Bool}
-use lib.Dec.{ltb}
-use mir.Val.{Val}
-use denote.Laws.{Is}
-use denote.Array.{Array}
 
-room : (n : ℕ) (colors : List ℕ) (vs : List Val) → Is (Array (e_int w16).ty 8) colors vs → n ≤ 8 → n ≤ length colors
-room n colors vs good h = omega (arith, good_length (e_int w16) 8 colors vs good)
+-- the first, and those behind it
+first_rest : (colors : List ℕ) → 1 ≤ length colors → colors ≡ get_or colors 0 0 ∷ take (length colors - 1) (drop 1 colors)
+first_rest colors h = grind (arith, common_steps, drop-cons colors 0 0)
 
-module _ (n bd : ℕ) (colors : List ℕ) (fits : n ≤ length colors) where
-  first : 0 < n → let x = get_or colors 0 0 in
-      levels_ok bd (take n colors) ≡ leb x (2 ^ bd - 1) && levels_after bd x (drop 1 (take n colors))
-  first h = ap (levels_ok bd) (next n colors fits 0 h) ∙ levels_first _ _ _
+pub loop-color-init : goal.loop-color-init
+loop-color-init c =
+    sym (ap (levels_ok c.args.bd) (first_rest c.args.colors.now c.requires.0) ∙ rw c.top_level-top.ensures (levels_first _ _ _))
 
-  -- what is left at place i, by the test of that colour
-  following : (last i : ℕ) (b : Bool) → i < n → b ≡ (ltb last (get_or colors i 0) && leb (get_or colors i 0) (2 ^ bd - 1)) →
-      levels_after bd last (drop i (take n colors)) ≡ b && levels_after bd (get_or colors i 0) (drop (i + 1) (take n colors))
-  following last i b h e = ap (levels_after bd last) (next n colors fits i h) ∙ levels_next _ _ _ _ ∙ rw e refl
-
-pub top_level-top-requires : goal.top_level-top-requires
-top_level-top-requires c = c.requires.2
-
-pub returns-then-top-last : goal.returns-then-top-last
-returns-then-top-last c =
-    sym (first _ _ c.args.colors (room _ c.args.colors _ c.well_formed.0 c.requires.1) c.requires.0
-    ∙ rw (lt-leb _ _ (rw c.top_level-top.ensures at c.if-top-last.true)) refl)
-
-pub loop-i-init : goal.loop-i-init
-loop-i-init c = (
-  search rules,
-  search rules,
-  sym (first _ _ c.args.colors (room _ c.args.colors _ c.well_formed.0 c.requires.1) c.requires.0
-      ∙ rw (le-leb _ _ (rw c.top_level-top.ensures at c.if-top-last.false)) refl),
-)
-
-pub returns-then-not-between : goal.returns-then-not-between
-returns-then-not-between c =
-    let next_one = following c.args.n c.args.bd c.args.colors (room _ c.args.colors _ c.well_formed.0 c.requires.1) c.loop-i.last.0 c.loop-i.i
-    c.between.result c.loop-i-test.true
-    (rw c.top_level-top.ensures at c.between.ensures) in
-    rw (next_one, c.if-not-between.true) at c.loop-i.invariant.2
-
-pub loop-i-preserved : goal.loop-i-preserved
-loop-i-preserved c =
-    let next_one = following c.args.n c.args.bd c.args.colors (room _ c.args.colors _ c.well_formed.0 c.requires.1) c.loop-i.last.0 c.loop-i.i
-    c.between.result c.loop-i-test.true
-    (rw c.top_level-top.ensures at c.between.ensures) in (
-      search rules,
-      search rules,
-      rw (next_one, c.if-not-between.false) at c.loop-i.invariant.2,
-    )
+pub loop-color-preserved : goal.loop-color-preserved
+loop-color-preserved c =
+    let l = c.loop-color in
+    let rest = take (length c.args.colors.now - 1) (drop 1 c.args.colors.now) in
+    let e : drop l.color-index rest ≡ get_or rest l.color-index 0 ∷ drop (l.color-index + 1) rest =
+    rw add-one (drop-cons rest l.color-index 0 c.loop-color-test.true) in
+    rw c.top_level-top.ensures (simp and_assoc (simp and_assoc at (rw (e, levels_next) at l.invariant)))
 
 pub returns : goal.returns
 unfolding levels_after above all_in
 returns c =
-    let a = c.args in
-    rw (done a.n a.colors (room _ c.args.colors _ c.well_formed.0 c.requires.1) c.loop-i.i c.loop-i-test.false) at c.loop-i.invariant.2
+    let l = c.loop-color in
+    let rest = take (length c.args.colors.now - 1) (drop 1 c.args.colors.now) in
+    let e : drop l.color-index rest ≡ [] = drop_of_length-le rest {i = l.color-index} c.loop-color-test.false in
+    sym (and-true l.ok) ∙ (rw e at l.invariant)

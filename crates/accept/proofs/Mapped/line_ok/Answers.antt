@@ -1,9 +1,8 @@
-use mathlib.Core.Path.{refl, sym, ◌∙◌}
 use native.Mathlib.Nat.{mul-zero, mul-one}
-use native.Mathlib.Omega.{arith}
+use Rattle.std.proofs.Common.{refl, sym, ◌∙◌, arith}
 use Rattle.accept.specs.Accepted.{line_ok}
 use Rattle.accept.proofs.Lines.{copied, flag_above}
-use Rattle.accept.proofs.line_ok.Goals as goal
+use Rattle.accept.proofs.Mapped.line_ok.Goals as goal
 
 pub returns-then-l-eq0 : goal.returns-then-l-eq0
 unfolding line_ok
