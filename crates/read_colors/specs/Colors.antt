@@ -1,5 +1,6 @@
 -- Document 02, L2: the colours read back; the rules are those of document 01, 'Literals' and 'Colours'.
-use Rattle.std.specs.Prelude.{ℕ, zero, suc, ◌+◌, ◌-◌, ◌^◌, min, max, cond, List, [], ◌∷◌, eqb, leb, length}
+use Rattle.std.specs.Prelude.{ℕ, zero, suc, ◌+◌, ◌-◌, ◌^◌, min, max, cond, List, [], ◌∷◌, eqb, leb, length, replicate}
+use Rattle.lists.specs.Written.{front}
 use Rattle.literals.specs.Literals.{cut_bits}
 use Rattle.reader.specs.Reader.{Reader, ◌>>=◌, ret, due}
 
@@ -7,6 +8,10 @@ use Rattle.reader.specs.Reader.{Reader, ◌>>=◌, ret, due}
 unfoldable pub insert : ℕ → List ℕ → List ℕ
 insert e [] = e ∷ []
 insert e (c ∷ cs) = min e c ∷ insert (max e c) cs
+
+-- eight colour places: those past the colours are 0
+abbrev pub in_eight : List ℕ → List ℕ
+in_eight cs = front cs (replicate 8 0)
 
 -- the bit of a cache entry: 1 counts as one colour taken
 unfoldable pub read_bit : ℕ → List ℕ → Reader (List ℕ)

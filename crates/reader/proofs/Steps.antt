@@ -9,8 +9,12 @@ use native.Mathlib.Numerals.{add-one}
 use native.Mathlib.Omega.{arith}
 use lib.ListN.{length, get_or, drop, drop_of_length-le}
 use lib.Seq.{drop-cons}
+use Rattle.std.specs.Prelude.{Result, Ok, Err, IsErrAnd}
 use borrow.Author.Tests.{lt-ltb, le-ltb, le-leb, lt-leb}
 use Rattle.literals.specs.Words.{word}
+use Rattle.refusals.specs.declared.Refusal.{Refusal}
+use Rattle.refusals.specs.Numbers.{number_of}
+use Rattle.reader.specs.Steps.{told}
 use Rattle.reader.specs.Reader.{Got, got, fault, after, Reader, is_due, due, read_up_to}
 
 -- ---- the three answers of a step
@@ -55,3 +59,10 @@ module _ {S : Type 0} (f : ℕ → S → Reader S) (s₀ : S) (vs : List ℕ) wh
       ⊎_elim (λ q. ap (λ (j : ℕ). read_up_to f j s₀ vs) (sym q) ∙ e)
       (λ l. ap (λ (g : Got S). after g (f n)) (up_fault n i k (le_of_suc-le-suc l) e))
       (eq-or-lt_of_le h)
+
+-- ---- a refusal passed on
+
+pub passed_on : {A B : Type 0} (f : B → A) (r : Result B Refusal) (e : Refusal) (ws : List ℕ) (g : Got A) → IsErrAnd r (λ x. x ≡ e)
+    → g ≡ fault (number_of e) → g ≡ told f r ws
+passed_on f (Ok b) e ws g h k = absurd h
+passed_on f (Err x) e ws g h k = k ∙ ap (λ (x : Refusal). fault (number_of x)) (sym h)
