@@ -10,3 +10,4 @@ pub mod CellBounds
 pub mod LineBounds
 pub mod WalkBounds
 pub mod FromInfinity
+pub mod Sets

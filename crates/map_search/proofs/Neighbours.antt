@@ -11,6 +11,7 @@ use Rattle.context.specs.Order.{order_of}
 use Rattle.context.proofs.Around.{around_ctx}
 use Rattle.rows.specs.Rows.{around_row}
 use Rattle.rows.proofs.Laws.{row_ok_holds, row_length}
+use Rattle.near.specs.declared.Key.{Key}
 use Rattle.near.specs.Near.{edge_key, key_at, Below, Keyed}
 use Rattle.near.proofs.Keys.{keyed}
 use Rattle.cells.proofs.Cheapest.{All}
@@ -34,6 +35,14 @@ module _ (m : List ℕ) (s : Scan) (l a : ℕ) where
         let ok = row_ok_holds k n key_cell.fits in
         rw (← key_cell.order)
         (order_under (around_row k) n ok, order_few (around_row k) n ok most, omega (arith, row_length k n key_cell.fits most))
+
+-- what a call that told the row k of a cell may rest on
+pub told : (m : List ℕ) (s : Scan) (l a n : ℕ) (k : Key) → k ≡ key_in m s l a → Below m n → (2 ≤ n) × (n ≤ 8)
+    → Keyed (around_in m s l a) n k × (k.ctx < 5)
+told m s l a n k e below few = (
+  rw e (key_cell m s l a n below (omega (arith, few)) few.1),
+  rw (e, (key_cell m s l a n below (omega (arith, few)) few.1).ctx) (context_small m s l a),
+)
 
 -- where the first cell of a line is inside, those of the lines before it are
 pub first_inside : (t : Bool) (w size k l : ℕ) → row_at t l 0 * w + col_at t l 0 < size → k ≤ l → row_at t k 0 * w + col_at t k 0 < size

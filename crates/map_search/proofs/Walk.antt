@@ -11,7 +11,7 @@ use Rattle.cells.specs.declared.Cost.{Cost}
 use Rattle.cells.specs.Cell.{plus}
 use Rattle.scan.specs.declared.Scan.{Scan}
 use Rattle.map_search.specs.declared.Choice.{Choice}
-use Rattle.map_search.specs.declared.MapResult.TheVariants.{Found, Beaten}
+use Rattle.std.specs.Prelude.{Some, None}
 use Rattle.map_search.specs.Lines.{line_of, put_line, Walk, Ended, next, reached, rest_of}
 use Rattle.map_search.proofs.LineChoice.{line_plain}
 use Rattle.map_search.proofs.PutLine.{length_put, put_below}
@@ -32,7 +32,7 @@ module _ (samples costs colours : List Float) (n : ℕ) (lambda : Float) (s : Sc
     -- the walk ends where the bound is reached, or goes on with the next line
     abbrev pub goes_on : ℕ → ℕ → Walk → Ended
     goes_on k l t =
-        cond (reached samples costs colours n lambda s head bound t) (record { map = t.map; flags = t.flags; result = Beaten }) (rest k l t)
+        cond (reached samples costs colours n lambda s head bound t) (record { map = t.map; flags = t.flags; result = None }) (rest k l t)
 
     rest_step : (lines l : ℕ) (t : Walk) → l < lines → rest (lines - l) l t ≡ goes_on (lines - (l + 1)) (l + 1) (next_walk t l)
     unfolding rest_of
@@ -63,6 +63,6 @@ module _ (samples costs colours : List Float) (n : ℕ) (lambda : Float) (s : Sc
         }
 
     pub rest_none : (lines l : ℕ) (t : Walk) → lines ≤ l
-        → rest (lines - l) l t ≡ record { map = t.map; flags = t.flags; result = Found t.cost.dist t.cost.rate }
+        → rest (lines - l) l t ≡ record { map = t.map; flags = t.flags; result = Some t.cost }
     unfolding rest_of
     rest_none lines l t done = let e : lines - l ≡ 0 = omega arith in rw e refl

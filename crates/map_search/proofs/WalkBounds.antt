@@ -17,8 +17,7 @@ use Rattle.cells.specs.declared.Cost.{Cost}
 use Rattle.cells.specs.Cell.{plus}
 use Rattle.scan.specs.declared.Scan.{Scan}
 use Rattle.map_search.specs.declared.Choice.{Choice}
-use Rattle.map_search.specs.declared.MapResult.{MapResult}
-use Rattle.map_search.specs.declared.MapResult.TheVariants.{Found, Beaten}
+use Rattle.std.specs.Prelude.{Option, Some, None}
 use Rattle.map_search.specs.Lines.{line_of, Walk, Ended, next, reached, rest_of, map_of}
 use Rattle.scan.specs.Scan.{Sound}
 use Rattle.map_search.proofs.Sums.{rep_sum, more_within}
@@ -46,16 +45,15 @@ walk_total error lambda head bits a b c d =
     add_under binary32 error (mul binary32 lambda all) (2 ^ 38) (513 * 2 ^ 29) a v (rep_sum 1025 29 (lit< tt) (lit≤ tt))
 
 -- a map of so many lines was found, and its error and bits are finite
-pub record IsFound (lines : ℕ) (r : MapResult) : Type 0 where
-  pub error : Float
-  pub bits : Float
-  pub is : r ≡ Found error bits
-  pub error_in : Within error (lines * 2 ^ 32)
-  pub bits_in : Within bits (lines * 2 ^ 12)
+pub record IsFound (lines : ℕ) (r : Option Cost) : Type 0 where
+  pub cost : Cost
+  pub is : r ≡ Some cost
+  pub error_in : Within cost.dist (lines * 2 ^ 32)
+  pub bits_in : Within cost.rate (lines * 2 ^ 12)
 
 -- found, or beaten by a bound that is not infinite
-abbrev Ends : ℕ → Float → MapResult → Type 0
-Ends lines bound r = ((r ≡ Beaten) × (bound ≡ inf false → ⊥)) ⊎ IsFound lines r
+abbrev Ends : ℕ → Float → Option Cost → Type 0
+Ends lines bound r = ((r ≡ None) × (bound ≡ inf false → ⊥)) ⊎ IsFound lines r
 
 module _ (samples costs colours : List Float) (n : ℕ) (lambda : Float) (s : Scan) (known : InRange samples costs colours n s)
     (head : Float) (weight : Under lambda (2 ^ 20)) (head_in : Under head (2 ^ 9)) (bound : Float) where
@@ -81,7 +79,7 @@ module _ (samples costs colours : List Float) (n : ℕ) (lambda : Float) (s : Sc
   rest_ends zero l t e context below paid =
       let all : l ≡ s.lines = omega arith in
       let whole : Paid s.lines t.cost = subst (λ (k : ℕ). Paid k t.cost) all paid in
-      inr (record { error = t.cost.dist; bits = t.cost.rate; is = refl; error_in = whole.0; bits_in = whole.1 })
+      inr (record { cost = t.cost; is = refl; error_in = whole.0; bits_in = whole.1 })
   rest_ends (suc k) l t e context below paid =
       let on : l < s.lines = omega arith in
       let few : l < 64 = omega (arith, known.sound.few) in
@@ -96,7 +94,7 @@ module _ (samples costs colours : List Float) (n : ℕ) (lambda : Float) (s : Sc
     where
       by_test : (r : Bool) → (r ≡ true → bound ≡ inf false → ⊥) → Ends s.lines bound (rest k (l + 1) (next_walk t l)).result
           → Ends s.lines bound
-          (cond r (record { map = (next_walk t l).map; flags = (next_walk t l).flags; result = Beaten }) (rest k (l + 1) (next_walk t l))).result
+          (cond r (record { map = (next_walk t l).map; flags = (next_walk t l).flags; result = None }) (rest k (l + 1) (next_walk t l))).result
       by_test true finite deeper = inl (refl, finite refl)
       by_test false finite deeper = deeper
 
@@ -111,21 +109,20 @@ module _ (samples costs colours : List Float) (n : ℕ) (lambda : Float) (s : Sc
   known = record { cells = N; sound = sound; two = two; most = most; sample = sample; colour = colour; cost = cost }
 
   -- whatever the bound: a found map's error and bits are finite
-  pub found_in_bounds : (bound : Float) (map flags : List ℕ) (error bits : Float) → Below map n
-      → (map_of samples costs colours n lambda s head bound map flags).result ≡ Found error bits
-      → Within error (s.lines * 2 ^ 32) × Within bits (s.lines * 2 ^ 12)
-  found_in_bounds bound map flags error bits below found =
+  pub found_in_bounds : (bound : Float) (map flags : List ℕ) (paid : Cost) → Below map n
+      → (map_of samples costs colours n lambda s head bound map flags).result ≡ Some paid
+      → Within paid.dist (s.lines * 2 ^ 32) × Within paid.rate (s.lines * 2 ^ 12)
+  found_in_bounds bound map flags paid below found =
       by_end (map_of samples costs colours n lambda s head bound map flags).result found
       (map_ends samples costs colours n lambda s known head weight head_in bound map flags below)
     where
-      by_end : (r : MapResult) → r ≡ Found error bits → Ends s.lines bound r
-          → Within error (s.lines * 2 ^ 32) × Within bits (s.lines * 2 ^ 12)
+      by_end : (r : Option Cost) → r ≡ Some paid → Ends s.lines bound r
+          → Within paid.dist (s.lines * 2 ^ 32) × Within paid.rate (s.lines * 2 ^ 12)
       by_end r f (inl beaten) = let x : ◌≡◌ {A = ℕ} 0 1 = cc in absurd (omega arith)
       by_end r f (inr end) =
-          let error-same : end.error ≡ error = cc in
-          let bits-same : end.bits ≡ bits = cc in (
-            subst (λ z. Within z (s.lines * 2 ^ 32)) error-same end.error_in,
-            subst (λ z. Within z (s.lines * 2 ^ 12)) bits-same end.bits_in,
+          let same : end.cost ≡ paid = cc in (
+            subst (λ (c : Cost). Within c.dist (s.lines * 2 ^ 32)) same end.error_in,
+            subst (λ (c : Cost). Within c.rate (s.lines * 2 ^ 12)) same end.bits_in,
           )
 
   -- an infinite bound is never reached
@@ -133,6 +130,6 @@ module _ (samples costs colours : List Float) (n : ℕ) (lambda : Float) (s : Sc
       → IsFound s.lines (map_of samples costs colours n lambda s head (inf false) map flags).result
   always_found map flags below = by_end (map_ends samples costs colours n lambda s known head weight head_in (inf false) map flags below)
     where
-      by_end : {r : MapResult} → Ends s.lines (inf false) r → IsFound s.lines r
+      by_end : {r : Option Cost} → Ends s.lines (inf false) r → IsFound s.lines r
       by_end (inl beaten) = absurd (beaten.1 refl)
       by_end (inr end) = end

@@ -1,5 +1,5 @@
 -- Lines, their candidates and the walk over them: document 01, 'Line choice'. Assumes nothing.
-use Rattle.std.specs.Prelude.{ℕ, zero, suc, ◌+◌, ◌-◌, ◌*◌, Bool, cond, List, [], ◌∷◌, ◌++◌, eqb, get_or, set, Float}
+use Rattle.std.specs.Prelude.{ℕ, zero, suc, ◌+◌, ◌-◌, ◌*◌, Bool, cond, List, [], ◌∷◌, ◌++◌, eqb, get_or, set, Float, Option, Some, None}
 use Rattle.std.specs.Float.{nan, binary32}
 use Rattle.std.specs.Float.Ieee.{add, mul, le, of_bits}
 use Rattle.context.specs.Order.{order_of, rank_of}
@@ -9,8 +9,6 @@ use Rattle.cells.specs.declared.Cell.{Cell}
 use Rattle.scan.specs.declared.Scan.{Scan}
 use Rattle.scan.specs.Scan.{place_at, cell_in, fill, around_in}
 use Rattle.map_search.specs.declared.Choice.{Choice}
-use Rattle.map_search.specs.declared.MapResult.{MapResult}
-use Rattle.map_search.specs.declared.MapResult.TheVariants.{Found, Beaten}
 
 -- the squares along the first k cells of line l, where cell a has the colour of index g a
 unfoldable pub dist_line : List Float → List Float → Scan → ℕ → (ℕ → ℕ) → ℕ → Float
@@ -46,7 +44,7 @@ started map flags = record { map = map; flags = flags; ctx = 3; cost = record { 
 pub record Ended : Type 0 where
   pub map : List ℕ
   pub flags : List ℕ
-  pub result : MapResult
+  pub result : Option Cost
 
 module _ (samples costs colours : List Float) (n : ℕ) (lambda : Float) (s : Scan) where
   abbrev pub rates_at : List ℕ → ℕ → ℕ → List Float
@@ -111,9 +109,9 @@ module _ (samples costs colours : List Float) (n : ℕ) (lambda : Float) (s : Sc
 
     -- the rest of the walk: k lines from line l on
     unfoldable pub rest_of : ℕ → ℕ → Walk → Ended
-    rest_of zero l t = record { map = t.map; flags = t.flags; result = Found t.cost.dist t.cost.rate }
+    rest_of zero l t = record { map = t.map; flags = t.flags; result = Some t.cost }
     rest_of (suc k) l t =
-        cond (reached (next t l)) (record { map = (next t l).map; flags = (next t l).flags; result = Beaten }) (rest_of k (l + 1) (next t l))
+        cond (reached (next t l)) (record { map = (next t l).map; flags = (next t l).flags; result = None }) (rest_of k (l + 1) (next t l))
 
     abbrev pub map_of : List ℕ → List ℕ → Ended
     map_of map flags = rest_of s.lines 0 (started map flags)

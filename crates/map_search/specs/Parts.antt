@@ -1,5 +1,5 @@
 -- What the crate's functions ask and answer: `build_map` and its steps. Assumes nothing.
-use Rattle.std.specs.Prelude.{ℕ, zero, suc, ◌+◌, ◌≤◌, true, cond, ◌≡◌, List, [], ◌∷◌, ◌⊎◌, eqb, T, get_or, Float}
+use Rattle.std.specs.Prelude.{ℕ, zero, suc, ◌+◌, ◌≤◌, true, cond, ◌≡◌, List, [], ◌∷◌, ◌⊎◌, eqb, T, get_or, Float, Option}
 use Rattle.std.specs.Float.{nan, binary32}
 use Rattle.std.specs.Float.Ieee.{add, le, fits}
 use Rattle.context.specs.Order.{rank_of}
@@ -8,7 +8,6 @@ use Rattle.cells.specs.Cell.{total_of, cheapest}
 use Rattle.cells.specs.declared.Cost.{Cost}
 use Rattle.map_search.specs.declared.Choice.{Choice}
 use Rattle.scan.specs.declared.Scan.{Scan}
-use Rattle.map_search.specs.declared.MapResult.{MapResult}
 use Rattle.map_search.specs.Lines.{Ended, cells_of, copied, constant, constants, total_by}
 
 module _ (samples costs colours : List Float) (n : ℕ) (lambda : Float) (s : Scan) where
@@ -41,7 +40,7 @@ pub record Halted (samples costs colours : List Float) (n : ℕ) (lambda : Float
   pub why : (cells ≡ s.len) ⊎ (le limit (total_of r lambda) ≡ true)
 
 -- what a search promises: its result, its map and its flags are those of the definition
-pub record Built (w : Ended) (r : MapResult) (map flags : List ℕ) : Type 0 where
+pub record Built (w : Ended) (r : Option Cost) (map flags : List ℕ) : Type 0 where
   pub result : r ≡ w.result
   pub cells : map ≡ w.map
   pub signs : flags ≡ w.flags

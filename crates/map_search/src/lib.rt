@@ -5,30 +5,26 @@ ghost use Rattle.std.specs.Prelude.{◌≡◌, ◌+◌, ◌*◌, ◌-◌, ◌≤
 ghost use Rattle.std.specs.Float.{nan, binary32};
 ghost use Rattle.std.specs.Float.Ieee.{add};
 ghost use Rattle.context.specs.Map.{row_at, col_at};
-ghost use Rattle.rows.specs.Rows.{code_table, Tables};
 ghost use Rattle.near.specs.Near.{Below};
 ghost use Rattle.cells.specs.Cell.{square, total_of, cheapest, eight};
-ghost use Rattle.cells.specs.Sure.{Sure, Priced};
 ghost use Rattle.scan.specs.Scan.{cell_in, fill, key_in, Sound};
 ghost use Rattle.map_search.specs.Lines.{dist_line, row_cost, cell_at, copied_by, line_of, put_line, map_of};
 ghost use Rattle.map_search.specs.Parts.{best_of, Halted, constant_by, constants_by, Built};
 ghost use Rattle.map_search.specs.declared.Choice.{Choice};
 
+use cells::{Cell, Cost, Pricing};
 use context::Index;
+use near::Key;
+use rows::{Codes, Tables};
 use scan::Scan;
 
 // A line's candidate; index is that of a constant line.
+// Stays (1): flag is a number, as the definitions (`put_line`, `row_cost`) and the buffer of the flags have it.
 #[derive(Clone, Copy)]
 pub struct Choice {
-    pub cost: cells::Cost,
+    pub cost: Cost,
     pub flag: u8,
     pub index: u8,
-}
-
-#[derive(Drop)]
-pub enum MapResult {
-    Found(f32, f32),
-    Beaten,
 }
 
 // Eight sums, each with one square more.
@@ -48,199 +44,27 @@ fn add_squares(t: [f32; 8], x: f32, colors: &[f32; 8]) -> [f32; 8]
     ]
 }
 
-// The distance of line l from each colour.
-fn const_dists(src: &[f32], colors: &[f32; 8], s: Scan, l: usize) -> [f32; 8]
-    requires { Sound s (length src.now) × (l < s.lines) }
-    ensures { result ≡ eight (λ c. dist_line src.now colors.now s l (λ a. c) s.len) }
-{
-    let mut t = [0.0f32; 8];
-    let mut a: usize = 0;
-    while a < s.len {
-        let p = scan::place(s, l, a);
-        let u = add_squares(t, src[p], colors);
-        t = u;
-        a += 1;
-    }
-    t
-}
-
-// The distance of line l from the line before it.
-fn copy_dist(src: &[f32], map: &[u8], colors: &[f32; 8], s: Scan, l: usize) -> f32
-    requires sound { Sound s (length src.now) × (length src.now ≤ length map.now) × (l < s.lines) × (0 < l) }
-    requires below { Below map.now 8 }
-    ensures { result ≡ dist_line src.now colors.now s l (λ a. cell_in map.now s (l - 1) a) s.len }
-{
-    let mut t = 0.0f32;
-    let mut a: usize = 0;
-    while a < s.len {
-        let p = scan::place(s, l, a);
-        let q = scan::place(s, l - 1, a);
-        let i = map[q] as usize;
-        t = t + cells::square(src[p], colors[i]);
-        a += 1;
-    }
-    t
-}
-
 // The line that is all of index c; k is the row of its first cell, whose costs are `rates`.
 fn constant(
     dists: &[f32; 8],
     rates: &[f32; 8],
-    codes: &[u8; 4096],
+    codes: &Codes,
     k: usize,
     row: f32,
     c: usize,
 ) -> Choice
-    requires { (c < 8) × (k < 512) × (codes.now ≡ code_table) }
+    requires { (c < 8) × (k < 512) }
     ensures { result ≡ constant_by dists.now rates.now k row c }
 {
-    let rank = rows::rank_at(codes, k, Index(c as u8));
-    let cost = cells::Cost {
+    let rank = codes.rank_at(k, Index(c as u8));
+    let cost = Cost {
         dist: dists[c],
-        rate: row + rates[rank.0 as usize],
+        rate: row + rates[usize::from(rank.0)],
     };
     Choice {
         cost,
         flag: 1,
         index: c as u8,
-    }
-}
-
-// The cheapest of a candidate and the constants, the first of the cheapest.
-fn best_const(
-    dists: &[f32; 8],
-    rates: &[f32; 8],
-    codes: &[u8; 4096],
-    k: usize,
-    row: f32,
-    n: usize,
-    lambda: f32,
-    from: Choice,
-) -> Choice
-    requires { (n ≤ 8) × (k < 512) × (codes.now ≡ code_table) }
-    ensures { result ≡ cheapest (λ (c : Choice). total_of c.cost lambda) from
-        (constants_by dists.now rates.now k row 0 n) }
-{
-    let mut best = from;
-    let mut least = cells::total(from.cost, lambda);
-    let mut c: usize = 0;
-    while c < n {
-        let next = constant(dists, rates, codes, k, row, c);
-        let cost = next.cost;
-        let total = cells::total(cost, lambda);
-        if total < least {
-            best = next;
-            least = total;
-        }
-        c += 1;
-    }
-    best
-}
-
-// The cheapest index of cell a of line l.
-fn one_cell(
-    src: &[f32],
-    map: &[u8],
-    costs: &[f32],
-    colors: &[f32; 8],
-    s: Scan,
-    l: usize,
-    a: usize,
-    n: usize,
-    lambda: f32,
-    orders: &[u8; 4096],
-    codes: &[u8; 4096],
-    marks: &[f32; 8],
-    cap: f32,
-    skips: &[bool; 64],
-) -> cells::Cell
-    requires sound { Sound s (length src.now) × (length src.now ≤ length map.now) × (l < s.lines) × (a < s.len) }
-    requires le_n { (2 ≤ n) × (n ≤ 8) × (length costs.now ≡ 301) × Below map.now n × Priced costs.now lambda
-        × Tables orders.now codes.now × Sure costs.now n cap skips.now }
-    ensures { result ≡ cell_at src.now costs.now colors.now n lambda s map.now l a }
-{
-    let p = scan::place(s, l, a);
-    let x = src[p];
-    let m = scan::key_cell(map, codes, s, l, a);
-    let ctx = m.ctx;
-    if l + a == 0 {
-        let rates = cells::rates(costs, n, ctx, true);
-        return cells::choose_cell(x, colors, orders, m.row, &rates, n, lambda);
-    }
-    cells::quick_cell(
-        x, colors, marks, costs, orders, codes, m.row, ctx, n, lambda, cap, skips,
-    )
-}
-
-// Line l cell by cell, into the map: its cost. It stops where the total has reached the limit.
-fn cell_by_cell(
-    src: &[f32],
-    map: &mut [u8],
-    costs: &[f32],
-    colors: &[f32; 8],
-    s: Scan,
-    l: usize,
-    n: usize,
-    lambda: f32,
-    row: f32,
-    limit: f32,
-    orders: &[u8; 4096],
-    codes: &[u8; 4096],
-    marks: &[f32; 8],
-    cap: f32,
-    skips: &[bool; 64],
-) -> cells::Cost
-    requires sound { Sound s (length src.now) × (length src.now ≤ length map.old) × (l < s.lines) }
-    requires le_n { (2 ≤ n) × (n ≤ 8) × (length costs.now ≡ 301) × Below map.old n × Priced costs.now lambda
-        × Tables orders.now codes.now × Sure costs.now n cap skips.now }
-    ensures { Halted src.now costs.now colors.now n lambda s map.old l row limit result
-        map.new }
-{
-    let mut cost = cells::Cost {
-        dist: 0.0,
-        rate: row,
-    };
-    let mut a: usize = 0;
-    while a < s.len {
-        let v = one_cell(
-            src, map, costs, colors, s, l, a, n, lambda, orders, codes, marks, cap, skips,
-        );
-        let p = scan::place(s, l, a);
-        map[p] = v.index;
-        let d = v.cost;
-        cost = cells::plus(cost, d);
-        if cells::total(cost, lambda) >= limit {
-            return cost;
-        }
-        a += 1;
-    }
-    cost
-}
-
-// The first candidate of line l: the copy, or on the first line the constant of index 0.
-fn first_of(
-    src: &[f32],
-    map: &[u8],
-    colors: &[f32; 8],
-    s: Scan,
-    l: usize,
-    row: f32,
-    zero: Choice,
-) -> Choice
-    requires { Sound s (length src.now) × (length src.now ≤ length map.now) × (l < s.lines) × Below map.now 8 }
-    ensures { result ≡ cond (eqb l 0) zero (copied_by src.now colors.now s map.now l row) }
-{
-    if l == 0 {
-        return zero;
-    }
-    let cost = cells::Cost {
-        dist: copy_dist(src, map, colors, s, l),
-        rate: row,
-    };
-    Choice {
-        cost,
-        flag: 2,
-        index: 0,
     }
 }
 
@@ -252,207 +76,253 @@ fn row_cost(costs: &[f32], ctx: usize, flag: usize) -> f32
     costs[9 + ctx * 3 + flag]
 }
 
-// The row of the first cell of line l, asked once for all constants of the line. In the first line nothing is asked: the
-// order is that of the indices.
-fn first_key(map: &[u8], codes: &[u8; 4096], s: Scan, l: usize) -> near::Key
-    requires { (row_at s.transposed l 0 * s.w + col_at s.transposed l 0 < length map.now) × Below map.now 8
-        × (codes.now ≡ code_table) }
-    ensures { result ≡ key_in map.now s l 0 }
-{
-    if l == 0 {
-        return near::edge_key(Index(0));
-    }
-    scan::key_cell(map, codes, s, l, 0)
+// What a map is searched for: the samples in the order of a scan, with what is made once for a size, and the tables.
+#[derive(Clone, Copy)]
+pub struct Search<'a> {
+    pub samples: &'a [f32],
+    pub scan: Scan,
+    pub pricing: &'a Pricing<'a>,
+    pub tables: &'a Tables,
+    pub ghost sound: { Sound scan (length samples.now) },
 }
 
-// As `line_best`, by the row m of the line's first cell: the constants ask for none.
-pub fn best_by(
-    src: &[f32],
-    map: &[u8],
-    costs: &[f32],
-    colors: &[f32; 8],
-    s: Scan,
-    l: usize,
-    n: usize,
-    lambda: f32,
-    ctx: usize,
-    m: near::Key,
-    codes: &[u8; 4096],
-) -> Choice
-    requires sound { Sound s (length src.now) × (length src.now ≤ length map.now) × (l < s.lines) × (ctx ≤ 3) }
-    requires le_n { (2 ≤ n) × (n ≤ 8) × (length costs.now ≡ 301) × Below map.now n × (m ≡ key_in map.now s l 0)
-        × (codes.now ≡ code_table) }
-    ensures { result ≡ best_of src.now costs.now colors.now n lambda s map.now l ctx }
-{
-    let k = m.row;
-    let rates = cells::rates(costs, n, m.ctx, l == 0);
-    let dists = const_dists(src, colors, s, l);
-    let row = row_cost(costs, ctx, 1);
-    let zero = constant(&dists, &rates, codes, k, row, 0);
-    let copy = row_cost(costs, ctx, 2);
-    let from = first_of(src, map, colors, s, l, copy, zero);
-    best_const(&dists, &rates, codes, k, row, n, lambda, from)
-}
-
-// The cheapest of copy and constants.
-fn line_best(
-    src: &[f32],
-    map: &[u8],
-    costs: &[f32],
-    colors: &[f32; 8],
-    s: Scan,
-    l: usize,
-    n: usize,
-    lambda: f32,
-    ctx: usize,
-    codes: &[u8; 4096],
-) -> Choice
-    requires sound { Sound s (length src.now) × (length src.now ≤ length map.now) × (l < s.lines) × (ctx ≤ 3) }
-    requires le_n { (2 ≤ n) × (n ≤ 8) × (length costs.now ≡ 301) × Below map.now n × (codes.now ≡ code_table) }
-    ensures { result ≡ best_of src.now costs.now colors.now n lambda s map.now l ctx }
-{
-    let m = first_key(map, codes, s, l);
-    best_by(src, map, costs, colors, s, l, n, lambda, ctx, m, codes)
-}
-
-// The constant or the copy into the map.
-fn put_best(map: &mut [u8], s: Scan, l: usize, best: Choice)
-    requires { Sound s (length map.old) × (l < s.lines) × (((best.flag ≡ 1) → ⊥) → 0 < l) }
-    ensures { map.new ≡ cond (eqb best.flag 1) (fill s l (λ a. best.index) map.old s.len)
-        (fill s l (λ a. cell_in map.old s (l - 1) a) map.old s.len) }
-{
-    if best.flag == 1 {
-        let i = best.index;
-        scan::fill_line(map, s, l, i);
-    } else {
-        scan::copy_line(map, s, l);
-    }
-}
-
-// As `choose_line`, by the cheapest of copy and constants.
-pub fn choose_from(
-    src: &[f32],
-    map: &mut [u8],
-    costs: &[f32],
-    colors: &[f32; 8],
-    s: Scan,
-    l: usize,
-    n: usize,
-    lambda: f32,
-    ctx: usize,
-    best: Choice,
-    orders: &[u8; 4096],
-    codes: &[u8; 4096],
-    marks: &[f32; 8],
-    cap: f32,
-    skips: &[bool; 64],
-) -> Choice
-    requires sound { Sound s (length src.now) × (length src.now ≤ length map.old) × (length map.old ≤ 4096) × (l < s.lines)
-        × (ctx ≤ 3) }
-    requires le_n { (2 ≤ n) × (n ≤ 8) × (length costs.now ≡ 301) × Below map.old n × Priced costs.now lambda
-        × (best ≡ best_of src.now costs.now colors.now n lambda s map.old l ctx)
-        × Tables orders.now codes.now × Sure costs.now n cap skips.now }
-    ensures value { result ≡ line_of src.now costs.now colors.now n lambda s map.old l ctx }
-    ensures map_after { map.new ≡ put_line src.now costs.now colors.now n lambda s
-        map.old l ctx result }
-{
-    let row = row_cost(costs, ctx, 0);
-    let c = best.cost;
-    let limit = cells::total(c, lambda);
-    let own = cell_by_cell(
-        src, map, costs, colors, s, l, n, lambda, row, limit, orders, codes, marks, cap, skips,
-    );
-    if cells::total(own, lambda) < limit {
-        return Choice {
-            cost: own,
-            flag: 0,
-            index: 0,
-        };
-    }
-    put_best(map, s, l, best);
-    best
-}
-
-// The cheapest candidate of line l, under the flag context ctx, into the map.
-fn choose_line(
-    src: &[f32],
-    map: &mut [u8],
-    costs: &[f32],
-    colors: &[f32; 8],
-    s: Scan,
-    l: usize,
-    n: usize,
-    lambda: f32,
-    ctx: usize,
-    orders: &[u8; 4096],
-    codes: &[u8; 4096],
-    marks: &[f32; 8],
-    cap: f32,
-    skips: &[bool; 64],
-) -> Choice
-    requires sound { Sound s (length src.now) × (length src.now ≤ length map.old) × (length map.old ≤ 4096) × (l < s.lines)
-        × (ctx ≤ 3) }
-    requires le_n { (2 ≤ n) × (n ≤ 8) × (length costs.now ≡ 301) × Below map.old n × Priced costs.now lambda
-        × Tables orders.now codes.now × Sure costs.now n cap skips.now }
-    ensures value { result ≡ line_of src.now costs.now colors.now n lambda s map.old l ctx }
-    ensures map_after { map.new ≡ put_line src.now costs.now colors.now n lambda s
-        map.old l ctx result }
-{
-    let best = line_best(src, map, costs, colors, s, l, n, lambda, ctx, codes);
-    choose_from(
-        src, map, costs, colors, s, l, n, lambda, ctx, best, orders, codes, marks, cap, skips,
-    )
-}
-
-pub fn wide(x: u8) -> usize
-    ensures { result ≡ x }
-{
-    x as usize
-}
-
-// The map and its flags, line by line, until the bound is reached. The tables are lent, and what is made once for a size.
-pub fn build_map(
-    src: &[f32],
-    costs: &[f32],
-    colors: &[f32; 8],
-    s: Scan,
-    n: usize,
-    lambda: f32,
-    head: f32,
-    bound: f32,
-    map: &mut [u8],
-    flags: &mut [u8],
-    orders: &[u8; 4096],
-    codes: &[u8; 4096],
-    marks: &[f32; 8],
-    cap: f32,
-    skips: &[bool; 64],
-) -> MapResult
-    requires sound { Sound s (length src.now) × (length src.now ≤ length map.old) × (length map.old ≤ 4096)
-        × (s.lines ≤ length flags.old) }
-    requires le_n { (2 ≤ n) × (n ≤ 8) × (length costs.now ≡ 301) × Below map.old n × Priced costs.now lambda
-        × Tables orders.now codes.now × Sure costs.now n cap skips.now }
-    ensures { Built (map_of src.now costs.now colors.now n lambda s head bound
-        map.old flags.old) result map.new flags.new }
-{
-    let mut cost = cells::Cost {
-        dist: 0.0,
-        rate: 0.0,
-    };
-    let mut ctx: usize = 3;
-    let mut l: usize = 0;
-    while l < s.lines {
-        let c = choose_line(
-            src, map, costs, colors, s, l, n, lambda, ctx, orders, codes, marks, cap, skips,
-        );
-        flags[l] = c.flag;
-        let d = c.cost;
-        cost = cells::plus(cost, d);
-        if cost.dist + lambda * (head + cost.rate) >= bound {
-            return MapResult::Beaten;
+impl<'a> Search<'a> {
+    // The distance of line l from each colour.
+    fn const_dists(&self, l: usize) -> [f32; 8]
+        requires { l < self.now.scan.lines }
+        ensures { result ≡ eight (λ c. dist_line self.now.samples.now self.now.pricing.now.colors self.now.scan l (λ a. c) self.now.scan.len) }
+    {
+        let s = self.scan;
+        let mut t = [0.0f32; 8];
+        for a in 0..s.len {
+            let p = s.place(l, a);
+            let u = add_squares(t, self.samples[p], &self.pricing.colors);
+            t = u;
         }
-        ctx = wide(c.flag);
-        l += 1;
+        t
     }
-    MapResult::Found(cost.dist, cost.rate)
+
+    // The distance of line l from the line before it.
+    fn copy_dist(&self, map: &[u8], l: usize) -> f32
+        requires { (length self.now.samples.now ≤ length map.now) × (l < self.now.scan.lines) × (0 < l) × Below map.now 8 }
+        ensures { result ≡ dist_line self.now.samples.now self.now.pricing.now.colors self.now.scan l
+            (λ a. cell_in map.now self.now.scan (l - 1) a) self.now.scan.len }
+    {
+        let s = self.scan;
+        let mut t = 0.0f32;
+        for a in 0..s.len {
+            let p = s.place(l, a);
+            let q = s.place(l - 1, a);
+            let i = usize::from(map[q]);
+            t = t + cells::square(self.samples[p], self.pricing.colors[i]);
+        }
+        t
+    }
+
+    // The cheapest of a candidate and the constants, the first of the cheapest.
+    fn best_const(
+        &self,
+        dists: &[f32; 8],
+        rates: &[f32; 8],
+        k: usize,
+        row: f32,
+        from: Choice,
+    ) -> Choice
+        requires { k < 512 }
+        ensures { result ≡ cheapest (λ (c : Choice). total_of c.cost self.now.pricing.now.lambda) from
+            (constants_by dists.now rates.now k row 0 self.now.pricing.now.n) }
+    {
+        let lambda = self.pricing.lambda;
+        let mut best = from;
+        let mut least = from.cost.total(lambda);
+        for c in 0..self.pricing.n {
+            let next = constant(dists, rates, &self.tables.codes, k, row, c);
+            let cost = next.cost;
+            let total = cost.total(lambda);
+            if total < least {
+                best = next;
+                least = total;
+            }
+        }
+        best
+    }
+
+    // The cheapest index of cell a of line l.
+    fn one_cell(&self, map: &[u8], l: usize, a: usize) -> Cell
+        requires { (length self.now.samples.now ≤ length map.now) × (l < self.now.scan.lines) × (a < self.now.scan.len)
+            × Below map.now self.now.pricing.now.n }
+        ensures { let p = self.now.pricing.now in
+            result ≡ cell_at self.now.samples.now p.costs.now p.colors p.n p.lambda self.now.scan map.now l a }
+    {
+        let x = self.samples[self.scan.place(l, a)];
+        let m = self.scan.key_cell(map, &self.tables.codes, l, a);
+        if l + a == 0 {
+            let rates = self.pricing.rates(m.ctx, true);
+            return self.pricing.choose(&self.tables.orders, m.row, &rates, x);
+        }
+        self.pricing.quick_cell(self.tables, m.row, m.ctx, x)
+    }
+
+    // Line l cell by cell, into the map: its cost. It stops where the total has reached the limit.
+    fn cell_by_cell(&self, map: &mut [u8], l: usize, row: f32, limit: f32) -> Cost
+        requires { (length self.now.samples.now ≤ length map.old) × (l < self.now.scan.lines) × Below map.old self.now.pricing.now.n }
+        ensures { let p = self.now.pricing.now in
+            Halted self.now.samples.now p.costs.now p.colors p.n p.lambda self.now.scan map.old l row limit result map.new }
+    {
+        let mut cost = Cost {
+            dist: 0.0,
+            rate: row,
+        };
+        for a in 0..self.scan.len {
+            let v = self.one_cell(map, l, a);
+            let p = self.scan.place(l, a);
+            map[p] = v.index;
+            let d = v.cost;
+            cost = cost + d;
+            if cost.total(self.pricing.lambda) >= limit {
+                return cost;
+            }
+        }
+        cost
+    }
+
+    // The first candidate of line l: the copy, or on the first line the constant of index 0.
+    fn first_of(&self, map: &[u8], l: usize, row: f32, zero: Choice) -> Choice
+        requires { (length self.now.samples.now ≤ length map.now) × (l < self.now.scan.lines) × Below map.now 8 }
+        ensures { result ≡ cond (eqb l 0) zero
+            (copied_by self.now.samples.now self.now.pricing.now.colors self.now.scan map.now l row) }
+    {
+        if l == 0 {
+            return zero;
+        }
+        let cost = Cost {
+            dist: self.copy_dist(map, l),
+            rate: row,
+        };
+        Choice {
+            cost,
+            flag: 2,
+            index: 0,
+        }
+    }
+
+    // The row of the first cell of line l, asked once for all constants of the line. In the first line nothing is asked:
+    // the order is that of the indices.
+    fn first_key(&self, map: &[u8], l: usize) -> Key
+        requires { (row_at self.now.scan.transposed l 0 * self.now.scan.w + col_at self.now.scan.transposed l 0 < length map.now)
+            × Below map.now 8 }
+        ensures { result ≡ key_in map.now self.now.scan l 0 }
+    {
+        if l == 0 {
+            return near::edge_key(Index(0));
+        }
+        self.scan.key_cell(map, &self.tables.codes, l, 0)
+    }
+
+    // As `line_best`, by the row m of the line's first cell: the constants ask for none.
+    pub fn best_by(&self, map: &[u8], l: usize, ctx: usize, m: Key) -> Choice
+        requires { (length self.now.samples.now ≤ length map.now) × (l < self.now.scan.lines) × (ctx ≤ 3)
+            × Below map.now self.now.pricing.now.n × (m ≡ key_in map.now self.now.scan l 0) }
+        ensures { let p = self.now.pricing.now in
+            result ≡ best_of self.now.samples.now p.costs.now p.colors p.n p.lambda self.now.scan map.now l ctx }
+    {
+        let costs = self.pricing.costs;
+        let rates = self.pricing.rates(m.ctx, l == 0);
+        let dists = self.const_dists(l);
+        let row = row_cost(costs, ctx, 1);
+        let zero = constant(&dists, &rates, &self.tables.codes, m.row, row, 0);
+        let copy = row_cost(costs, ctx, 2);
+        let from = self.first_of(map, l, copy, zero);
+        self.best_const(&dists, &rates, m.row, row, from)
+    }
+
+    // The cheapest of copy and constants.
+    fn line_best(&self, map: &[u8], l: usize, ctx: usize) -> Choice
+        requires { (length self.now.samples.now ≤ length map.now) × (l < self.now.scan.lines) × (ctx ≤ 3)
+            × Below map.now self.now.pricing.now.n }
+        ensures { let p = self.now.pricing.now in
+            result ≡ best_of self.now.samples.now p.costs.now p.colors p.n p.lambda self.now.scan map.now l ctx }
+    {
+        let m = self.first_key(map, l);
+        self.best_by(map, l, ctx, m)
+    }
+
+    // The constant or the copy into the map.
+    fn put_best(&self, map: &mut [u8], l: usize, best: Choice)
+        requires { Sound self.now.scan (length map.old) × (l < self.now.scan.lines) × (((best.flag ≡ 1) → ⊥) → 0 < l) }
+        ensures { map.new ≡ cond (eqb best.flag 1) (fill self.now.scan l (λ a. best.index) map.old self.now.scan.len)
+            (fill self.now.scan l (λ a. cell_in map.old self.now.scan (l - 1) a) map.old self.now.scan.len) }
+    {
+        if best.flag == 1 {
+            self.scan.fill_line(map, l, best.index);
+        } else {
+            self.scan.copy_line(map, l);
+        }
+    }
+
+    // As `choose_line`, by the cheapest of copy and constants.
+    pub fn choose_from(&self, map: &mut [u8], l: usize, ctx: usize, best: Choice) -> Choice
+        requires { let p = self.now.pricing.now in
+            (length self.now.samples.now ≤ length map.old) × (length map.old ≤ 4096) × (l < self.now.scan.lines) × (ctx ≤ 3)
+            × Below map.old p.n
+            × (best ≡ best_of self.now.samples.now p.costs.now p.colors p.n p.lambda self.now.scan map.old l ctx) }
+        ensures value { let p = self.now.pricing.now in
+            result ≡ line_of self.now.samples.now p.costs.now p.colors p.n p.lambda self.now.scan map.old l ctx }
+        ensures map_after { let p = self.now.pricing.now in
+            map.new ≡ put_line self.now.samples.now p.costs.now p.colors p.n p.lambda self.now.scan map.old l ctx result }
+    {
+        let lambda = self.pricing.lambda;
+        let row = row_cost(self.pricing.costs, ctx, 0);
+        let limit = best.cost.total(lambda);
+        let own = self.cell_by_cell(map, l, row, limit);
+        if own.total(lambda) < limit {
+            return Choice {
+                cost: own,
+                flag: 0,
+                index: 0,
+            };
+        }
+        self.put_best(map, l, best);
+        best
+    }
+
+    // The cheapest candidate of line l, under the flag context ctx, into the map.
+    fn choose_line(&self, map: &mut [u8], l: usize, ctx: usize) -> Choice
+        requires { (length self.now.samples.now ≤ length map.old) × (length map.old ≤ 4096) × (l < self.now.scan.lines) × (ctx ≤ 3)
+            × Below map.old self.now.pricing.now.n }
+        ensures value { let p = self.now.pricing.now in
+            result ≡ line_of self.now.samples.now p.costs.now p.colors p.n p.lambda self.now.scan map.old l ctx }
+        ensures map_after { let p = self.now.pricing.now in
+            map.new ≡ put_line self.now.samples.now p.costs.now p.colors p.n p.lambda self.now.scan map.old l ctx result }
+    {
+        let best = self.line_best(map, l, ctx);
+        self.choose_from(map, l, ctx, best)
+    }
+
+    // The map and its flags, line by line: its cost, or None where the bound is reached.
+    pub fn build_map(&self, head: f32, bound: f32, map: &mut [u8], flags: &mut [u8]) -> Option<Cost>
+        requires { (length self.now.samples.now ≤ length map.old) × (length map.old ≤ 4096) × (self.now.scan.lines ≤ length flags.old)
+            × Below map.old self.now.pricing.now.n }
+        ensures { let p = self.now.pricing.now in
+            Built (map_of self.now.samples.now p.costs.now p.colors p.n p.lambda self.now.scan head bound map.old flags.old)
+            result map.new flags.new }
+    {
+        let lambda = self.pricing.lambda;
+        let mut cost = Cost {
+            dist: 0.0,
+            rate: 0.0,
+        };
+        let mut ctx: usize = 3;
+        for l in 0..self.scan.lines {
+            let c = self.choose_line(map, l, ctx);
+            flags[l] = c.flag;
+            let d = c.cost;
+            cost = cost + d;
+            if cost.dist + lambda * (head + cost.rate) >= bound {
+                return None;
+            }
+            ctx = usize::from(c.flag);
+        }
+        Some(cost)
+    }
 }
