@@ -2,7 +2,7 @@
 use Prim.Native.Nat.{ℕ, zero, suc, ◌+◌, ◌*◌, ◌<◌, ◌≤◌, min}
 use mathlib.Core.Path.{◌≡◌, refl, sym, ap, ◌∙◌}
 use mathlib.Core.Bool.{true}
-use mathlib.Core.List.{List, [], ◌∷◌, ◌++◌}
+use mathlib.Core.List.{List, [], ◌∷◌, ◌++◌, map}
 use native.Mathlib.Omega.{arith}
 use native.Mathlib.Nat.{suc-mul, zero-mul, mul-le-mul_right}
 use lib.Dec.{leb}
@@ -40,3 +40,9 @@ cut_append limit (u ∷ us) vs = ap (λ (l : List ℕ). min u limit ∷ l) (cut_
 -- row y of h lies within the map
 pub row_room : (y h w : ℕ) → y < h → y * w + w ≤ h * w
 row_room y h w l = rw (← suc-mul y w) (mul-le-mul_right w l)
+
+-- what is stored of numbers where a limit is the most
+pub map_cut : (limit : ℕ) (vs : List ℕ) → map (λ v. min v limit) vs ≡ cut limit vs
+unfolding cut
+map_cut limit [] = refl
+map_cut limit (v ∷ vs) = ap (λ (l : List ℕ). min v limit ∷ l) (map_cut limit vs)

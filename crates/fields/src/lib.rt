@@ -2,45 +2,66 @@
 // Open to the crates above only: functions may require that a place or a room is large enough.
 #![tactic(auto)]
 
-ghost use Rattle.std.specs.Prelude.{◌≡◌, ◌+◌, ◌*◌, ◌-◌, ◌<◌, ◌≤◌, min, length, get_or};
+ghost use Rattle.std.specs.Prelude.{◌≡◌, ℕ, ◌+◌, ◌*◌, ◌-◌, ◌<◌, ◌≤◌, min, map, length, get_or};
 ghost use Rattle.lists.specs.Written.{written};
 ghost use Rattle.fields.specs.Fields.{is_digit, column, field_at, number_of, number_up_to, is_line, line_numbers, are_rows, row_numbers, cut};
 
 // A field as far as it was read: spaces only, a number, or not in form.
-#[derive(Drop)]
+#[derive(Clone, Copy)]
 pub enum Field {
     Blank,
     Number(u32),
     Bad,
 }
 
+// What a buffer stores of a field's number: the number, or the most that it has room for.
+pub trait Stored: Copy {
+    ghost stored: { ℕ → Self };
+
+    fn stored(v: u32) -> Self
+        ensures { result ≡ stored v };
+}
+
+impl Stored for u8 {
+    ghost stored = { λ v. min v 255 };
+
+    fn stored(v: u32) -> u8 {
+        v.min(255) as u8
+    }
+}
+
+impl Stored for u16 {
+    ghost stored = { λ v. min v 65535 };
+
+    fn stored(v: u32) -> u16 {
+        v.min(65535) as u16
+    }
+}
+
 // Past the end there is a 0, which no field and no line has.
 fn byte_at(s: &[u8], at: usize) -> u8
     ensures { result ≡ get_or s.now at 0 }
 {
-    if at < s.len() {
-        return s[at];
-    }
-    0
+    s.get(at).copied().unwrap_or(0)
 }
 
 fn is_digit(b: u8) -> bool
     ensures { result ≡ is_digit b }
 {
-    (48 <= b) & (b <= 57)
+    b.is_ascii_digit()
 }
 
 fn digit(b: u8) -> u32
     requires { 48 ≤ b }
     ensures { (result ≡ b - 48) × (result < 256) }
 {
-    (b - 48) as u32
+    u32::from(b - b'0')
 }
 
 fn first_column(b: u8) -> Field
     ensures { result ≡ column Field.Blank b }
 {
-    if b == 32 {
+    if b == b' ' {
         return Field::Blank;
     }
     if is_digit(b) {
@@ -79,10 +100,8 @@ fn field_at(s: &[u8], at: usize) -> Field
     ensures { result ≡ field_at s.now at }
 {
     let mut f = Field::Blank;
-    let mut i: usize = 0;
-    while i < 8 {
+    for i in 0..8 {
         f = read_column(f, byte_at(s, at + i));
-        i += 1;
     }
     f
 }
@@ -92,8 +111,7 @@ fn number_of(f: Field) -> u32
 {
     match f {
         Field::Number(v) => v,
-        Field::Blank => 0,
-        Field::Bad => 0,
+        Field::Blank | Field::Bad => 0,
     }
 }
 
@@ -102,8 +120,7 @@ fn number_up_to(limit: u32, f: Field) -> bool
 {
     match f {
         Field::Number(v) => v <= limit,
-        Field::Blank => false,
-        Field::Bad => false,
+        Field::Blank | Field::Bad => false,
     }
 }
 
@@ -120,17 +137,12 @@ pub fn is_line(limit: u32, s: &[u8], at: usize, k: usize) -> bool
     requires { at + 8 * k < 4294967296 }
     ensures { result ≡ is_line limit s.now at k }
 {
-    let mut p = at;
-    let mut i: usize = 0;
-    while i < k {
-        let f = field_at(s, p);
-        if !number_up_to(limit, f) {
+    for i in 0..k {
+        if !number_up_to(limit, field_at(s, at + 8 * i)) {
             return false;
         }
-        p += 8;
-        i += 1;
     }
-    byte_at(s, p) == 10
+    byte_at(s, at + 8 * k) == b'\n'
 }
 
 // Whether h lines of w fields each stand at a place.
@@ -139,62 +151,22 @@ pub fn are_rows(limit: u32, s: &[u8], at: usize, w: usize, h: usize) -> bool
     ensures { result ≡ are_rows limit s.now at w h }
 {
     let mut p = at;
-    let mut y: usize = 0;
-    while y < h {
+    for _ in 0..h {
         if !is_line(limit, s, p, w) {
             return false;
         }
         p += 8 * w + 1;
-        y += 1;
     }
     true
 }
 
-fn cut8(v: u32) -> u8
-    ensures { result ≡ min v 255 }
-{
-    if v < 255 {
-        return v as u8;
-    }
-    255
-}
-
-fn cut16(v: u32) -> u16
-    ensures { result ≡ min v 65535 }
-{
-    if v < 65535 {
-        return v as u16;
-    }
-    65535
-}
-
-// A line's numbers, each cut to 255, into a slice from a place on.
-pub fn read8(s: &[u8], at: usize, k: usize, out: &mut [u8], from: usize)
+// A line's numbers, as they are stored, into a slice from a place on.
+pub fn read_line<T: Stored>(s: &[u8], at: usize, k: usize, out: &mut [T], from: usize)
     requires { (at + 8 * k < 4294967296) × (from + k ≤ length out.old) }
-    ensures { out.new ≡ written out.old from (cut 255 (line_numbers s.now at k)) }
+    ensures { out.new ≡ written out.old from (map T.stored (line_numbers s.now at k)) }
 {
-    let mut p = at;
-    let mut i: usize = 0;
-    while i < k {
-        let v = number_at(s, p);
-        out[from + i] = cut8(v);
-        p += 8;
-        i += 1;
-    }
-}
-
-// A line's numbers, each cut to 65,535, into a slice from the front.
-pub fn read16(s: &[u8], at: usize, k: usize, out: &mut [u16])
-    requires { (at + 8 * k < 4294967296) × (k ≤ length out.old) }
-    ensures { out.new ≡ written out.old 0 (cut 65535 (line_numbers s.now at k)) }
-{
-    let mut p = at;
-    let mut i: usize = 0;
-    while i < k {
-        let v = number_at(s, p);
-        out[i] = cut16(v);
-        p += 8;
-        i += 1;
+    for i in 0..k {
+        out[from + i] = T::stored(number_at(s, at + 8 * i));
     }
 }
 
@@ -204,12 +176,8 @@ pub fn read_rows(s: &[u8], at: usize, w: usize, h: usize, out: &mut [u8])
     ensures { out.new ≡ written out.old 0 (cut 255 (row_numbers s.now at w h)) }
 {
     let mut p = at;
-    let mut from: usize = 0;
-    let mut y: usize = 0;
-    while y < h {
-        read8(s, p, w, out, from);
+    for y in 0..h {
+        read_line(s, p, w, out, y * w);
         p += 8 * w + 1;
-        from += w;
-        y += 1;
     }
 }

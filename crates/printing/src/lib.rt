@@ -9,17 +9,14 @@ ghost use Rattle.printing.specs.Printing.{field, line, call_line, call_lines, li
 fn last_digit(v: u32) -> u8
     ensures { result ≡ 48 + v % 10 }
 {
-    48 + (v % 10) as u8
+    b'0' + (v % 10) as u8
 }
 
 // No zeros in front of a number.
 fn digit_or_space(v: u32) -> u8
     ensures { result ≡ cond (eqb v 0) 32 (48 + v % 10) }
 {
-    if v == 0 {
-        return 32;
-    }
-    last_digit(v)
+    if v == 0 { b' ' } else { last_digit(v) }
 }
 
 pub fn print_field(out: &mut [u8], at: usize, v: u32) -> usize
@@ -29,11 +26,9 @@ pub fn print_field(out: &mut [u8], at: usize, v: u32) -> usize
 {
     out[at + 7] = last_digit(v);
     let mut left = v / 10;
-    let mut k: usize = 7;
-    while k > 0 {
-        k -= 1;
+    for k in (0..7).rev() {
         out[at + k] = digit_or_space(left);
-        left = left / 10;
+        left /= 10;
     }
     at + 8
 }
@@ -43,7 +38,7 @@ pub fn end_line(out: &mut [u8], at: usize) -> usize
     ensures value { result ≡ at + 1 }
     ensures out_after { out.new ≡ written out.old at (line []) }
 {
-    out[at] = 10;
+    out[at] = b'\n';
     at + 1
 }
 
@@ -64,11 +59,8 @@ fn print_calls(out: &mut [u8], at: usize, calls: &[u32]) -> usize
     ensures out_after { out.new ≡ written out.old at (call_lines calls.now) }
 {
     let mut pos = at;
-    let mut i: usize = 0;
-    while i < calls.len() {
-        let call = calls[i];
-        pos = print_call(out, pos, call);
-        i += 1;
+    for call in calls {
+        pos = print_call(out, pos, *call);
     }
     pos
 }

@@ -1,10 +1,7 @@
-use Prim.Native.Nat.{◌≤◌, ◌+◌, ◌-◌, ◌*◌}
+use Prim.Native.Nat.{◌+◌, ◌-◌, ◌*◌}
 use Rattle.fields.specs.Fields.{is_line}
 use mathlib.Core.Path.{◌≡◌}
 use Rattle.fields.proofs.is_line.Given as goal
 
 abbrev pub invariant-loop-i : goal.invariant-loop-i
-invariant-loop-i l = (l.i ≤ l.k) × (l.p ≡ l.at + 8 * l.i) × (is_line l.limit l.s l.p (l.k - l.i) ≡ is_line l.limit l.s l.at l.k)
-
-abbrev pub decreases-loop-i : goal.decreases-loop-i
-decreases-loop-i l = l.k - l.i
+invariant-loop-i l = is_line l.limit l.s (l.at + 8 * l.i) (l.k - l.i) ≡ is_line l.limit l.s l.at l.k
