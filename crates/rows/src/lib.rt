@@ -586,7 +586,20 @@ impl Codes {
     }
 }
 
-// Both tables.
+// For reading: the order turned round, by the neighbour before.
+#[derive(Drop)]
+pub struct Nexts {
+    pub table: [u8; 8192],
+    pub ghost is_table: { table ≡ next_table },
+}
+
+impl Nexts {
+    pub fn new() -> Self {
+        Nexts { table: NEXTS }
+    }
+}
+
+// Orders and codes, which are mostly lent together.
 #[derive(Drop)]
 pub struct Tables {
     pub orders: Orders,
@@ -600,12 +613,6 @@ impl Tables {
             codes: Codes::new(),
         }
     }
-}
-
-pub fn nexts() -> [u8; 8192]
-    ensures { result ≡ next_table }
-{
-    NEXTS
 }
 
 // The row of three neighbours.

@@ -1,11 +1,6 @@
-use Prim.Native.Nat.{◌-◌, ◌<◌}
-use mathlib.Core.Path.{◌≡◌}
-use lib.ListN.{length}
+use Prim.Native.Nat.{◌<◌}
 use Rattle.near.specs.Near.{Below}
 use Rattle.guess_map.proofs.guess_first.Given as goal
 
 abbrev pub invariant-loop-a : goal.invariant-loop-a
-invariant-loop-a l = (length l.map ≡ length l.initial.map) × Below l.map 8 × (l.index.0 < 8)
-
-abbrev pub decreases-loop-a : goal.decreases-loop-a
-decreases-loop-a l = l.s.len - l.a
+invariant-loop-a l = Below l.map 8 × (l.index.0 < 8)
