@@ -1,4 +1,5 @@
 -- The open sizes, by a mask: closing one, and how the open sizes give the order one by one.
+use Rattle.std.proofs.Common.{Option, None, Some}
 use mathlib.Core.Path.{◌≡◌, refl, sym, ap, ◌∙◌}
 use mathlib.Core.Bool.{Bool, true, false, not, ◌&&◌, and-true}
 use mathlib.Core.List.{List, [], ◌∷◌}
@@ -11,9 +12,8 @@ use lib.Ieee.{Float}
 use borrow.Author.Tests.{eqb-true, eqb-false, ltb-true, ltb-false}
 use Rattle.lists.specs.Counted.{elem}
 use Rattle.lists.proofs.Choice.{and_false}
-use Rattle.groups.proofs.Each.{Each, each_weaken}
-use Rattle.cells.specs.Cell.{first_cheapest}
-use Rattle.sizes.specs.Order.{those, all_sizes, in_order}
+use Rattle.groups.proofs.Each.{Each}
+use Rattle.sizes.specs.Order.{those, next_in, all_sizes, in_order}
 use Rattle.sizes.proofs.Those.{those_pass, each_those, those_same, those_both, without, without_fewer}
 use Rattle.sizes.proofs.Order.{first_each, each_elem, no_first, first_then}
 use Rattle.sizes.proofs.Levels.{InSizes, all_sizes_holds}
@@ -54,25 +54,25 @@ pub closed_each : (P : ℕ → Type 0) (mask : List Bool) (k : ℕ) → Each P (
     → Each P (opened (set mask k false))
 closed_each P mask k e = rw (closed mask k) (each_those (λ j. not (eqb j k)) P (opened mask) e)
 
--- the next size: 0 where none is open
+-- the next size, where one is open
 module _ (f : ℕ → Float) (mask : List Bool) where
-  abbrev pub next : ℕ
-  next = first_cheapest f 0 (opened mask)
+  abbrev pub next : Option ℕ
+  next = next_in f (opened mask)
 
-  pub next_none : next ≡ 0 → opened mask ≡ []
-  next_none e =
-      let positive : Each (λ k. 0 < k) (opened mask) =
-      each_weaken (IsOpen mask) (λ k. 0 < k) (opened mask) (λ k p. omega (arith, p.1.0)) (opened_each mask) in
-      no_first f (opened mask) positive e
+  pub next_none : None ≡ next → opened mask ≡ []
+  next_none = no_first f (opened mask)
 
-  -- it is the first in the order, and once it is closed the others follow likewise
-  pub next_then : (next ≡ 0 → ⊥) → in_order f (opened mask) ≡ next ∷ in_order f (opened (set mask next false))
-  next_then some =
-      first_then f (opened mask) some ∙ ap (λ (ks : List ℕ). next ∷ in_order f ks) (sym (closed mask next))
+  module _ (k : ℕ) (is : Some k ≡ next) where
+    -- what holds of each open size holds of it
+    pub next_each : (P : ℕ → Type 0) → Each P (opened mask) → P k
+    next_each P e = first_each P f (opened mask) k e is
 
-  -- one fewer is open then
-  pub next_fewer : (next ≡ 0 → ⊥) → length (opened (set mask next false)) < length (opened mask)
-  next_fewer some =
-      let inside : elem next (opened mask) ≡ true =
-      first_each (λ k. elem k (opened mask) ≡ true) f (opened mask) (each_elem (opened mask)) some in
-      rw (closed mask next) (without_fewer next (opened mask) inside)
+    -- it is the first in the order, and once it is closed the others follow likewise
+    pub next_then : in_order f (opened mask) ≡ k ∷ in_order f (opened (set mask k false))
+    next_then = first_then f (opened mask) k is ∙ ap (λ (ks : List ℕ). k ∷ in_order f ks) (sym (closed mask k))
+
+    -- one fewer is open then
+    pub next_fewer : length (opened (set mask k false)) < length (opened mask)
+    next_fewer =
+        rw (closed mask k)
+        (without_fewer k (opened mask) (next_each (λ j. elem j (opened mask) ≡ true) (each_elem (opened mask))))

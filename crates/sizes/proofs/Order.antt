@@ -1,8 +1,9 @@
 -- The order of the sizes: what it depends on, what is in it, and its first with the others after it.
+use Rattle.std.proofs.Common.{None, Some}
 use mathlib.Core.Path.{◌≡◌, refl, sym, ap, ◌∙◌}
 use mathlib.Core.Bool.{true, cond, not, ◌||◌}
 use mathlib.Core.List.{List, [], ◌∷◌}
-use Prim.Native.Nat.{ℕ, zero, suc, ◌≤◌, ◌<◌}
+use Prim.Native.Nat.{ℕ, zero, suc, ◌≤◌}
 use native.Mathlib.Omega.{arith}
 use lib.Dec.{eqb}
 use lib.ListN.{length}
@@ -11,8 +12,8 @@ use borrow.Author.Tests.{eq-eqb}
 use Rattle.lists.specs.Counted.{elem}
 use Rattle.lists.proofs.Choice.{either_way, or_true}
 use Rattle.groups.proofs.Each.{Each, each_weaken}
-use Rattle.cells.specs.Cell.{cheapest, first_cheapest}
-use Rattle.sizes.specs.Order.{ordered, in_order}
+use Rattle.cells.specs.Cell.{cheapest}
+use Rattle.sizes.specs.Order.{next_in, ordered, in_order}
 use Rattle.sizes.proofs.Those.{each_those, without, without_fewer}
 
 -- ---- the cheapest
@@ -52,12 +53,11 @@ module _ (P : ℕ → Type 0) where
         ordered_each f m (without first (k ∷ ks)) (each_those (λ j. not (eqb j first)) P (k ∷ ks) e),
       )
 
-  -- so is the first of the cheapest, unless it is the 0 that says that there is none
-  pub first_each : (f : ℕ → Float) (ks : List ℕ) → Each P ks → (first_cheapest f 0 ks ≡ 0 → ⊥)
-      → P (first_cheapest f 0 ks)
-  unfolding first_cheapest
-  first_each f [] e some = absurd (some refl)
-  first_each f (k ∷ ks) e some = cheapest_each f k ks e.0 e.1
+  -- so is the first of them, where there is one
+  pub first_each : (f : ℕ → Float) (ks : List ℕ) (first : ℕ) → Each P ks → Some first ≡ next_in f ks → P first
+  first_each f [] first e is = cc
+  first_each f (k ∷ ks) first e is =
+      let same : first ≡ cheapest f k ks = cc in rw same (cheapest_each f k ks e.0 e.1)
 
 pub each_elem : (ks : List ℕ) → Each (λ x. elem x ks ≡ true) ks
 unfolding elem
@@ -92,21 +92,19 @@ module _ (f : ℕ → Float) where
       let l = without_fewer first (k ∷ ks) (cheapest_in f k ks) in
       ap (λ z. first ∷ z) (ordered_all m n (without first (k ∷ ks)) (omega arith) (omega arith))
 
-  -- no first of the cheapest: no sizes
-  pub no_first : (ks : List ℕ) → Each (λ k. 0 < k) ks → first_cheapest f 0 ks ≡ 0 → ks ≡ []
-  unfolding first_cheapest
-  no_first [] e z = refl
-  no_first (k ∷ ks) e z =
-      let l : 0 < cheapest f k ks = cheapest_each (λ x. 0 < x) f k ks e.0 e.1 in
-      absurd (omega arith)
+  -- no first: no sizes
+  pub no_first : (ks : List ℕ) → None ≡ next_in f ks → ks ≡ []
+  no_first [] is = refl
+  no_first (k ∷ ks) is = cc
 
   -- else it is the first in the order, and the others follow likewise
-  pub first_then : (ks : List ℕ) → (first_cheapest f 0 ks ≡ 0 → ⊥)
-      → in_order f ks ≡ first_cheapest f 0 ks ∷ in_order f (without (first_cheapest f 0 ks) ks)
-  unfolding ordered first_cheapest
-  first_then [] some = absurd (some refl)
-  first_then (k ∷ ks) some =
-      let first = cheapest f k ks in
-      let others = without first (k ∷ ks) in
-      let fewer = without_fewer first (k ∷ ks) (cheapest_in f k ks) in
-      ap (λ (js : List ℕ). first ∷ js) (ordered_all (length ks) (length others) others (omega arith) (omega arith))
+  pub first_then : (ks : List ℕ) (first : ℕ) → Some first ≡ next_in f ks
+      → in_order f ks ≡ first ∷ in_order f (without first ks)
+  unfolding ordered
+  first_then [] first is = cc
+  first_then (k ∷ ks) first is =
+      let same : first ≡ cheapest f k ks = cc in
+      let others = without (cheapest f k ks) (k ∷ ks) in
+      let fewer = without_fewer (cheapest f k ks) (k ∷ ks) (cheapest_in f k ks) in
+      rw same
+      (ap (λ (js : List ℕ). cheapest f k ks ∷ js) (ordered_all (length ks) (length others) others (omega arith) (omega arith)))

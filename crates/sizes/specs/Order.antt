@@ -1,8 +1,13 @@
 -- Document 01, 'Sizes': which sizes there are, and their order.
-use Rattle.std.specs.Prelude.{◌≡◌, ◌⊎◌, Bool, true, cond, not, List, [], ◌∷◌, ℕ, zero, suc, ◌<◌, eqb, leb, length, Float}
+use Rattle.std.specs.Prelude.{◌≡◌, ◌⊎◌, Bool, true, cond, not, List, [], ◌∷◌, ℕ, zero, suc, ◌<◌, eqb, leb, length, Float, Option, None, Some}
 use Rattle.std.specs.Float.Ieee.{lt, eq}
 use Rattle.lists.specs.Counted.{elem}
 use Rattle.cells.specs.Cell.{cheapest}
+
+-- the first of the cheapest, where there is one
+abbrev pub next_in : (ℕ → Float) → List ℕ → Option ℕ
+next_in lb [] = None
+next_in lb (k ∷ ks) = Some (cheapest lb k ks)
 
 -- those that pass the test, in their order
 unfoldable pub those : (ℕ → Bool) → List ℕ → List ℕ
