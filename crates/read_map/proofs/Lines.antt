@@ -6,72 +6,60 @@ use Prim.Native.Nat.{ℕ, zero, suc, ◌+◌, ◌-◌, ◌<◌, ◌≤◌}
 use native.Mathlib.Numerals.{add-one}
 use native.Mathlib.Omega.{arith}
 use lib.Dec.{eqb}
-use lib.ListN.{length, set, drop, length-set}
+use lib.ListN.{length, set}
 use lib.Seq.{get_or-set_same}
 use borrow.Author.Tests.{eqb-false}
 use Rattle.near.specs.Near.{Below}
 use Rattle.scan.specs.declared.Scan.{Scan}
-use Rattle.scan.specs.Scan.{cell_in, fill}
+use Rattle.scan.specs.Scan.{place_at, cell_in, fill}
 use Rattle.emit.specs.Map.{row_context}
-use Rattle.reader.specs.Reader.{Got, after, ret, read_up_to}
-use Rattle.reader.specs.Steps.{told, Took}
-use Rattle.reader.specs.declared.Place.{Place}
-use Rattle.reader.specs.declared.Taken.{Taken}
-use Rattle.reader.proofs.Steps.{told_made, told_fault, told_next, up_next, up_fault}
+use Rattle.reader.specs.Reader.{Got, got, fault, after, ret, due, read_up_to}
+use Rattle.reader.proofs.Steps.{up_next, up_fault}
 use Rattle.read_map.specs.Map.{read_index, read_cell, read_cells, Lines, read_line, read_lines}
+use Rattle.read_map.proofs.Ranked.{cell_read}
 
 -- ---- the cells of a line
 
-pub record CellsInv (ws : List ℕ) (at : ℕ) (map₀ : List ℕ) (n : ℕ) (s : Scan) (l : ℕ) (map : List ℕ) (place : Place) (a : ℕ) : Type 0 where
-  pub seen : a ≤ s.len
-  pub sure : place.fault ≡ 0
-  pub size : length map ≡ length map₀
+pub record CellsInv (vs map₀ : List ℕ) (n : ℕ) (s : Scan) (l : ℕ) (map ws : List ℕ) (a : ℕ) : Type 0 where
   pub below : Below map n
-  pub reads : read_up_to (read_cell n s l) a map₀ (drop at ws) ≡ told place map ws
+  pub reads : read_up_to (read_cell n s l) a map₀ vs ≡ got map ws
 
-pub cells_start : (ws : List ℕ) (at : ℕ) (map₀ : List ℕ) (n : ℕ) (s : Scan) (l : ℕ) → Below map₀ n
-    → CellsInv ws at map₀ n s l map₀ (record { at = at; fault = 0 }) 0
-unfolding read_up_to told
-cells_start ws at map₀ n s l b = record { seen = omega arith; sure = refl; size = refl; below = b; reads = refl }
+pub cells_start : (vs map₀ : List ℕ) (n : ℕ) (s : Scan) (l : ℕ) → Below map₀ n → CellsInv vs map₀ n s l map₀ vs 0
+unfolding read_up_to
+cells_start vs map₀ n s l b = record { below = b; reads = refl }
 
-module _ (ws : List ℕ) (at : ℕ) (map₀ : List ℕ) (n : ℕ) (s : Scan) (l : ℕ) (map : List ℕ) (place : Place) (a : ℕ)
-    (v : CellsInv ws at map₀ n s l map place a) where
-  module _ (more : a < s.len) (r : Place) (next : List ℕ) (e : read_cell n s l a map (drop place.at ws) ≡ told r next ws) where
-    cells_more : read_up_to (read_cell n s l) (a + 1) map₀ (drop at ws) ≡ told r next ws
-    cells_more = up_next (read_cell n s l) map₀ (drop at ws) ws a map place r next v.reads v.sure e
+module _ (vs map₀ : List ℕ) (n : ℕ) (s : Scan) (l : ℕ) (map ws : List ℕ) (a : ℕ) (v : CellsInv vs map₀ n s l map ws a) where
+  cells_more : (g : Got ℕ) → read_index n s l a map ws ≡ g
+      → read_up_to (read_cell n s l) (a + 1) map₀ vs ≡ after g (λ i. ret (set map (place_at s l a) i))
+  cells_more g e = up_next (read_cell n s l) map₀ vs a map ws _ v.reads (cell_read n s l a map ws g e)
 
-    pub cells_fault : (r.fault ≡ 0 → ⊥) → read_up_to (read_cell n s l) s.len map₀ (drop at ws) ≡ told r next ws
-    cells_fault h = up_fault (read_cell n s l) map₀ (drop at ws) ws s.len (a + 1) r next next (omega arith) cells_more h
+  pub cells_fault : a < s.len → (f : ℕ) → read_index n s l a map ws ≡ fault f → read_up_to (read_cell n s l) s.len map₀ vs ≡ fault f
+  cells_fault more f e = up_fault (read_cell n s l) map₀ vs s.len (a + 1) f (omega arith) (cells_more (fault f) e)
 
-    pub cells_turn : r.fault ≡ 0 → length next ≡ length map → Below next n → CellsInv ws at map₀ n s l next r (a + 1)
-    cells_turn h k b = record { seen = omega arith; sure = h; size = k ∙ v.size; below = b; reads = cells_more }
+  pub cells_turn : (q i : ℕ) (us : List ℕ) → q ≡ place_at s l a → read_index n s l a map ws ≡ got i us → Below (set map q i) n
+      → CellsInv vs map₀ n s l (set map q i) us (a + 1)
+  cells_turn q i us p e b = record { below = b; reads = rw p (cells_more (got i us) e) }
 
-  pub cells_end : s.len ≤ a → read_up_to (read_cell n s l) s.len map₀ (drop at ws) ≡ told place map ws
-  cells_end h = let same : a ≡ s.len = omega (arith, v.seen) in rw same at v.reads
+  pub cells_end : a ≡ s.len → read_up_to (read_cell n s l) s.len map₀ vs ≡ got map ws
+  cells_end same = rw same at v.reads
 
 -- ---- a line by its flag
 
-module _ (ws : List ℕ) (n : ℕ) (s : Scan) (l f at : ℕ) (map : List ℕ) where
-  pub cells_all : (next : List ℕ) (p : Place) → f ≡ 0 → read_up_to (read_cell n s l) s.len map (drop at ws) ≡ told p next ws
-      → read_cells f n s l map (drop at ws) ≡ told p next ws
+module _ (vs : List ℕ) (n : ℕ) (s : Scan) (l f : ℕ) (map : List ℕ) where
+  pub cells_all : (g : Got (List ℕ)) → f ≡ 0 → read_up_to (read_cell n s l) s.len map vs ≡ g → read_cells f n s l map vs ≡ g
   unfolding read_cells
-  cells_all next p h e = rw h e
+  cells_all g h e = rw h e
 
-  pub cells_constant : (next : List ℕ) (p : Place) (i : ℕ) → f ≡ 1 → read_index n s l 0 map (drop at ws) ≡ told p i ws
-      → next ≡ fill s l (λ a. i) map s.len → read_cells f n s l map (drop at ws) ≡ told p next ws
+  pub cells_constant : (g : Got ℕ) → f ≡ 1 → read_index n s l 0 map vs ≡ g → read_cells f n s l map vs ≡ after g (λ i. ret (fill s l (λ a. i) map s.len))
   unfolding read_cells
-  cells_constant next p i h e g =
-      rw h
-      (ap (λ (g : Got ℕ). after g (λ i. ret (fill s l (λ a. i) map s.len))) e ∙ told_made p i ws (λ i. fill s l (λ a. i) map s.len)
-      ∙ ap (λ (m : List ℕ). told p m ws) (sym g))
+  cells_constant g h e = rw h (ap (λ (g : Got ℕ). after g (λ i. ret (fill s l (λ a. i) map s.len))) e)
 
-pub cells_copied : (ws : List ℕ) (n : ℕ) (s : Scan) (l f at : ℕ) (map next : List ℕ) → (f ≡ 0 → ⊥) → (f ≡ 1 → ⊥)
-    → next ≡ fill s l (λ a. cell_in map s (l - 1) a) map s.len
-    → read_cells f n s l map (drop at ws) ≡ told (record { at = at; fault = 0 }) next ws
-unfolding read_cells told
-cells_copied ws n s l zero at map next h k e = absurd (h refl)
-cells_copied ws n s l (suc zero) at map next h k e = absurd (k refl)
-cells_copied ws n s l (suc (suc f)) at map next h k e = rw e refl
+pub cells_copied : (vs : List ℕ) (n : ℕ) (s : Scan) (l f : ℕ) (map : List ℕ) → (f ≡ 0 → ⊥) → (f ≡ 1 → ⊥)
+    → read_cells f n s l map vs ≡ got (fill s l (λ a. cell_in map s (l - 1) a) map s.len) vs
+unfolding read_cells
+cells_copied vs n s l zero map h k = absurd (h refl)
+cells_copied vs n s l (suc zero) map h k = absurd (k refl)
+cells_copied vs n s l (suc (suc f)) map h k = refl
 
 -- a first line's flag is below 2
 pub flag_later : (l v limit : ℕ) → limit ≡ cond (eqb l 0) 2 3 → v < limit → 2 ≤ v → 0 < l
@@ -83,27 +71,16 @@ flag_later l v limit e h k = go (eqb l 0) refl e
 
 -- ---- a line
 
-module _ (ws : List ℕ) (n : ℕ) (s : Scan) (l : ℕ) (flags map : List ℕ) (p : Place) (tk : Taken)
-    (k : Took ws p.at 4 (row_context flags l) (cond (eqb l 0) 2 3) tk) where
-  abbrev here : Lines
-  here = record { flags = flags; map = map }
-
-  line_whole : read_line n s l here (drop p.at ws)
-      ≡ after (told tk.place tk.second ws)
-      (λ f vs. after (read_cells f n s l map vs) (λ m. ret (record { flags = set flags l f; map = m })))
+module _ (n : ℕ) (s : Scan) (l : ℕ) (flags map vs : List ℕ) (g : Got ℕ) (k : due 4 (row_context flags l) (cond (eqb l 0) 2 3) vs ≡ g) where
+  line_whole : read_line n s l (record { flags = flags; map = map }) vs
+      ≡ after g (λ f ws. after (read_cells f n s l map ws) (λ m. ret (record { flags = set flags l f; map = m })))
   unfolding read_line
-  line_whole =
-      ap (λ (g : Got ℕ). after g (λ f vs. after (read_cells f n s l map vs) (λ m. ret (record { flags = set flags l f; map = m })))) k.reads
+  line_whole = ap (λ (g : Got ℕ). after g (λ f ws. after (read_cells f n s l map ws) (λ m. ret (record { flags = set flags l f; map = m })))) k
 
-  line_unflagged : (tk.place.fault ≡ 0 → ⊥) → (t : Lines) → read_line n s l here (drop p.at ws) ≡ told tk.place t ws
-  line_unflagged h t = line_whole ∙ told_fault tk.place tk.second ws _ t h
-
-  line_told : tk.place.fault ≡ 0 → (r : Place) (next : List ℕ) → read_cells tk.second n s l map (drop tk.place.at ws) ≡ told r next ws
-      → read_line n s l here (drop p.at ws) ≡ told r (record { flags = set flags l tk.second; map = next }) ws
-  line_told h r next e =
-      line_whole ∙ told_next tk.place tk.second ws _ h
-      ∙ ap (λ (g : Got (List ℕ)). after g (λ m. ret (record { flags = set flags l tk.second; map = m }))) e
-      ∙ told_made r next ws (λ m. record { flags = set flags l tk.second; map = m })
+line_sent : (n : ℕ) (s : Scan) (l f : ℕ) (flags map ws : List ℕ) (g : Got (List ℕ)) → read_cells f n s l map ws ≡ g
+    → after {B = Lines} (read_cells f n s l map ws) (λ m. ret (record { flags = set flags l f; map = m }))
+    ≡ after g (λ m. ret (record { flags = set flags l f; map = m }))
+line_sent n s l f flags map ws g e = ap (λ (g : Got (List ℕ)). after {B = Lines} g (λ m. ret (record { flags = set flags l f; map = m }))) e
 
 context_set : (flags : List ℕ) (l f : ℕ) → l < length flags → f ≡ row_context (set flags l f) (l + 1)
 unfolding row_context
@@ -111,65 +88,48 @@ context_set flags l f h = rw add-one (sym (get_or-set_same flags l f 0 h))
 
 -- ---- all lines
 
-pub record LinesInv (ws : List ℕ) (at : ℕ) (map₀ flags₀ : List ℕ) (n : ℕ) (s : Scan) (map flags : List ℕ)
-    (place : Place) (ctx l : ℕ) : Type 0 where
-  pub seen : l ≤ s.lines
-  pub sure : place.fault ≡ 0
-  pub size : length map ≡ length map₀
-  pub count : length flags ≡ s.lines
+pub record LinesInv (vs map₀ flags₀ : List ℕ) (n : ℕ) (s : Scan) (map flags ws : List ℕ) (ctx l : ℕ) : Type 0 where
   pub below : Below map n
   pub context : ctx ≡ row_context flags l
   pub small : ctx ≤ 3
-  pub reads : read_up_to (read_line n s) l (record { flags = flags₀; map = map₀ }) (drop at ws) ≡ told place (record { flags = flags; map = map }) ws
+  pub reads : read_up_to (read_line n s) l (record { flags = flags₀; map = map₀ }) vs ≡ got (record { flags = flags; map = map }) ws
 
-pub lines_start : (ws : List ℕ) (at : ℕ) (map₀ flags₀ : List ℕ) (n : ℕ) (s : Scan) → length flags₀ ≡ s.lines → Below map₀ n
-    → LinesInv ws at map₀ flags₀ n s map₀ flags₀ (record { at = at; fault = 0 }) 3 0
-unfolding read_up_to told row_context
-lines_start ws at map₀ flags₀ n s c b =
-    record { seen = omega arith; sure = refl; size = refl; count = c; below = b; context = refl; small = omega arith; reads = refl }
+pub lines_start : (vs map₀ flags₀ : List ℕ) (n : ℕ) (s : Scan) → Below map₀ n → LinesInv vs map₀ flags₀ n s map₀ flags₀ vs 3 0
+unfolding read_up_to row_context
+lines_start vs map₀ flags₀ n s b = record { below = b; context = refl; small = omega arith; reads = refl }
 
-module _ (ws : List ℕ) (at : ℕ) (map₀ flags₀ : List ℕ) (n : ℕ) (s : Scan) (map flags : List ℕ) (place : Place) (ctx l : ℕ)
-    (v : LinesInv ws at map₀ flags₀ n s map flags place ctx l) where
+module _ (vs map₀ flags₀ : List ℕ) (n : ℕ) (s : Scan) (map flags ws : List ℕ) (ctx l : ℕ) (v : LinesInv vs map₀ flags₀ n s map flags ws ctx l) where
   abbrev start : Lines
   start = record { flags = flags₀; map = map₀ }
 
-  abbrev so_far : Lines
-  so_far = record { flags = flags; map = map }
-
-  pub lines_end : s.lines ≤ l → read_lines n s start (drop at ws) ≡ told place so_far ws
+  pub lines_end : l ≡ s.lines → read_lines n s start vs ≡ got (record { flags = flags; map = map }) ws
   unfolding read_lines
-  lines_end h = let same : l ≡ s.lines = omega (arith, v.seen) in rw same at v.reads
+  lines_end same = rw same at v.reads
 
-  module _ (more : l < s.lines) (tk : Taken) (limit : ℕ) (is : limit ≡ cond (eqb l 0) 2 3) (k : Took ws place.at 4 ctx limit tk) where
-    took : Took ws place.at 4 (row_context flags l) (cond (eqb l 0) 2 3) tk
-    took = rw (← v.context, ← is) k
+  module _ (limit : ℕ) (is : limit ≡ cond (eqb l 0) 2 3) where
+    lines_more : (g : Got ℕ) → due 4 ctx limit ws ≡ g → read_up_to (read_line n s) (l + 1) start vs
+        ≡ after g (λ f us. after (read_cells f n s l map us) (λ m. ret (record { flags = set flags l f; map = m })))
+    lines_more g k =
+        let took : due 4 (row_context flags l) (cond (eqb l 0) 2 3) ws ≡ g = rw (← v.context, ← is) k in
+        up_next (read_line n s) start vs l (record { flags = flags; map = map }) ws _ v.reads (line_whole n s l flags map ws g took)
 
-    turn : (r : Place) (t : Lines) → read_line n s l so_far (drop place.at ws) ≡ told r t ws
-        → read_up_to (read_line n s) (l + 1) start (drop at ws) ≡ told r t ws
-    turn r t e = up_next (read_line n s) start (drop at ws) ws l so_far place r t v.reads v.sure e
-
-    stop : (r : Place) (t u : Lines) → read_line n s l so_far (drop place.at ws) ≡ told r t ws → (r.fault ≡ 0 → ⊥)
-        → read_lines n s start (drop at ws) ≡ told r u ws
+    stop : (f : ℕ) → l < s.lines → read_up_to (read_line n s) (l + 1) start vs ≡ fault f → read_lines n s start vs ≡ fault f
     unfolding read_lines
-    stop r t u e h = up_fault (read_line n s) start (drop at ws) ws s.lines (l + 1) r t u (omega arith) (turn r t e) h
+    stop f more e = up_fault (read_line n s) start vs s.lines (l + 1) f (omega arith) e
 
-    pub lines_unflagged : (tk.place.fault ≡ 0 → ⊥) → (t : Lines) → read_lines n s start (drop at ws) ≡ told tk.place t ws
-    lines_unflagged h t = stop tk.place t t (line_unflagged ws n s l flags map place tk took h t) h
+    pub lines_unflagged : l < s.lines → (f : ℕ) → due 4 ctx limit ws ≡ fault f → read_lines n s start vs ≡ fault f
+    lines_unflagged more f k = stop f more (lines_more (fault f) k)
 
-    module _ (h : tk.place.fault ≡ 0) (r : Place) (next : List ℕ)
-        (e : read_cells tk.second n s l map (drop tk.place.at ws) ≡ told r next ws) where
-      pub lines_fault : (r.fault ≡ 0 → ⊥) → (t : Lines) → read_lines n s start (drop at ws) ≡ told r t ws
-      lines_fault g t = stop r _ t (line_told ws n s l flags map place tk took h r next e) g
+    pub lines_fault : l < s.lines → (flag : ℕ) (us : List ℕ) → due 4 ctx limit ws ≡ got flag us
+        → (f : ℕ) → read_cells flag n s l map us ≡ fault f → read_lines n s start vs ≡ fault f
+    lines_fault more flag us k f e = stop f more (lines_more (got flag us) k ∙ line_sent n s l flag flags map us (fault f) e)
 
-      pub lines_turn : r.fault ≡ 0 → length next ≡ length map → Below next n → tk.second ≤ 3
-          → LinesInv ws at map₀ flags₀ n s next (set flags l tk.second) r tk.second (l + 1)
-      lines_turn g size below few = record {
-        seen = omega arith;
-        sure = g;
-        size = size ∙ v.size;
-        count = length-set flags l tk.second ∙ v.count;
-        below = below;
-        context = context_set flags l tk.second (omega (arith, v.count));
-        small = few;
-        reads = turn r _ (line_told ws n s l flags map place tk took h r next e);
-      }
+    pub lines_turn : l < length flags → (flag : ℕ) (us : List ℕ) → due 4 ctx limit ws ≡ got flag us
+        → (next xs : List ℕ) → read_cells flag n s l map us ≡ got next xs → Below next n → flag ≤ 3
+        → LinesInv vs map₀ flags₀ n s next (set flags l flag) xs flag (l + 1)
+    lines_turn inside flag us k next xs e below few = record {
+      below = below;
+      context = context_set flags l flag inside;
+      small = few;
+      reads = lines_more (got flag us) k ∙ line_sent n s l flag flags map us (got next xs) e;
+    }
