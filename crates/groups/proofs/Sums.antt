@@ -2,16 +2,19 @@
 use mathlib.Core.Path.{◌≡◌, refl, ap, ◌∙◌}
 use mathlib.Core.Logic.{⊎_elim}
 use mathlib.Core.List.{List, [], ◌∷◌}
-use Prim.Native.Nat.{ℕ, zero, suc, ◌+◌, ◌^◌, ◌≤◌, ◌<◌, zero-le}
-use native.Mathlib.Nat.{eq-or-lt_of_le, le_of_suc-le-suc}
+use Prim.Native.Nat.{ℕ, zero, suc, ◌+◌, ◌-◌, ◌^◌, ◌≤◌, ◌<◌, zero-le}
+use native.Mathlib.Nat.{add-zero, add-suc, eq-or-lt_of_le, le_of_suc-le-suc}
 use native.Mathlib.Numerals.{add-one}
 use native.Mathlib.Omega.{arith}
-use lib.ListN.{length, get_or}
+use lib.ListN.{length, get_or, take, drop, length-drop}
+use Rattle.std.specs.List.{sum}
+use Rattle.std.proofs.lemmas.List.Sums.{sum_by_more}
+use Rattle.std.proofs.lemmas.List.{get_or-drop}
 use lib.Ieee.{Float, nan, binary64, add, of_bits, of_int}
 use Rattle.ieee.specs.Numbers.{nat}
 use Rattle.ieee.proofs.Numbers.{nat_add}
 use Rattle.groups.specs.Histogram.{sum_to}
-use Rattle.groups.specs.Groups.{sums_from, prefix_of}
+use Rattle.groups.specs.Groups.{sums_from, prefix_of, sum_in}
 
 pub sum_next : (xs : List ℕ) (k : ℕ) → sum_to xs (k + 1) ≡ sum_to xs k + get_or xs k 0
 unfolding sum_to
@@ -23,6 +26,20 @@ sum_mono xs k zero h = let e : k ≡ 0 = omega arith in rw e zero-le
 sum_mono xs k (suc n) h =
     let less : k ≤ n → sum_to xs k ≤ sum_to xs n = sum_mono xs k n in
     ⊎_elim (λ e. rw e (omega arith)) (λ l. omega (arith, less (le_of_suc-le-suc l))) (eq-or-lt_of_le h)
+
+-- of a part
+sum_part : (xs : List ℕ) (i m : ℕ) → i + m ≤ length xs → sum_to xs i + sum (take m (drop i xs)) ≡ sum_to xs (i + m)
+unfolding sum_to
+sum_part xs i zero h = rw (add-zero i) (omega arith)
+sum_part xs i (suc m) h =
+    let part : m < length (drop i xs) = omega (arith, length-drop i xs) in
+    let more = rw add-one at (sum_by_more (λ x. x) (drop i xs) m 0 part) in
+    rw (add-suc i m) (omega (arith, sum_part xs i m (omega arith), more, get_or-drop i xs m 0))
+
+pub sum_range : (xs : List ℕ) (i j : ℕ) → i ≤ j → j ≤ length xs → sum (take (j - i) (drop i xs)) ≡ sum_in xs i j
+sum_range xs i j h l =
+    let all : i + (j - i) ≡ j = omega arith in
+    omega (arith, rw all at (sum_part xs i (j - i) (omega arith)))
 
 -- ---- the same in f64
 pub sums_first : (t : Float) (xs : List ℕ) → get_or (sums_from t xs) 0 nan ≡ t

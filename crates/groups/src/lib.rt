@@ -2,7 +2,7 @@
 // Where a function has a `requires`, the crates above have tested it before they call.
 #![tactic(auto)]
 
-ghost use Rattle.std.specs.Prelude.{◌≡◌, true, map, ℕ, ◌+◌, ◌*◌, ◌^◌, ◌≤◌, ◌<◌, length, get_or, set, replicate};
+ghost use Rattle.std.specs.Prelude.{◌≡◌, true, map, ℕ, ◌+◌, ◌*◌, ◌^◌, ◌≤◌, ◌<◌, length, get_or, set, replicate, sum};
 ghost use Rattle.std.specs.Float.{nan};
 ghost use Rattle.ieee.specs.Bounds.{Within};
 ghost use Rattle.samples.specs.Samples.{samples_ok, level_of};
@@ -12,6 +12,8 @@ ghost use Rattle.groups.specs.Tables.{row_at, Filled, CutsOf, TablesOf};
 
 // The levels that occur, ascending: how many there are, and of each of the first 32 its count, sum and sum of
 // squares.
+// Stays (5): three functions ask for `HasLevels`, which is no ghost field, since a block may have more than 32 levels.
+// Stays (6): three arrays, since the theorems of quality speak of three lists, and each sum runs over one alone.
 #[derive(Clone, Copy)]
 pub struct Histogram {
     pub n: usize,
@@ -96,6 +98,7 @@ pub struct Best {
 
 // The tables of the programme, in rows of 33: at k * 33 + j the least cost of the first j levels in k groups, and
 // where the last of these groups starts.
+// Stays (6): two arrays, since `Filled`, `Tabled` and `CutsOf` speak of two lists.
 #[derive(Drop)]
 pub struct Tables {
     pub costs: [f64; 297],
@@ -128,7 +131,7 @@ impl Prefixes {
     {
         let base = k * 33;
         let mut b = Best {
-            cost: 1.0 / 0.0,
+            cost: f64::INFINITY,
             cut: k,
         };
         for i in k..j {
@@ -166,7 +169,7 @@ pub fn tables_of(h: &Histogram, kmax: usize) -> Tables
         q: prefix(&h.q),
     };
     let mut tables = Tables {
-        costs: [1.0f64 / 0.0; 297],
+        costs: [f64::INFINITY; 297],
         cuts: [0usize; 297],
     };
     tables.costs[0] = 0.0;
@@ -190,6 +193,7 @@ pub fn groups_of(h: &Histogram, tables: &Tables, k: usize) -> Groups
     let e = tables.costs[k * 33 + h.n];
     Groups {
         colors: centers(h, &tables.cuts, k),
+        // Stays (4): `e.max(0.0)` may give -0.0 for -0.0, which `floored` does not.
         error: if e > 0.0 { e } else { 0.0 },
     }
 }
@@ -215,11 +219,14 @@ fn color(h: &Histogram, i: usize, j: usize) -> u16
         × (0 < sum_in h.now.w i j) × (sum_in h.now.s i j ≤ 4095 * sum_in h.now.w i j) }
     ensures { result ≡ color_of h.now.w h.now.s i j }
 {
-    let mut dw: u64 = 0;
-    let mut ds: u64 = 0;
-    for t in i..j {
-        dw += h.w[t];
-        ds += h.s[t];
-    }
+    let dw = total(&h.w[i..j]);
+    let ds = total(&h.s[i..j]);
     ((2 * ds + dw) / (2 * dw)) as u16
+}
+
+fn total(xs: &[u64]) -> u64
+    requires { sum xs.now < 2 ^ 64 }
+    ensures { result ≡ sum xs.now }
+{
+    xs.iter().sum()
 }
