@@ -586,15 +586,16 @@ impl Codes {
     }
 }
 
-// For reading: the order turned round, by the neighbour before.
+// For reading: the order turned round, by the neighbour before. No ghost field: a guess asks nothing of its table.
 #[derive(Drop)]
 pub struct Nexts {
     pub table: [u8; 8192],
-    pub ghost is_table: { table ≡ next_table },
 }
 
 impl Nexts {
-    pub fn new() -> Self {
+    pub fn new() -> Self
+        ensures { result.table ≡ next_table }
+    {
         Nexts { table: NEXTS }
     }
 }
