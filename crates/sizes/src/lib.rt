@@ -122,7 +122,7 @@ fn least_row(costs: &[f32]) -> f32
     requires { length costs.now ≡ 301 }
     ensures { result ≡ least_row costs.now }
 {
-    let mut least: f32 = 1.0 / 0.0;
+    let mut least = f32::INFINITY;
     for cost in &costs[9..21] {
         if *cost < least {
             least = *cost;
