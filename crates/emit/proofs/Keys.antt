@@ -150,9 +150,6 @@ rows_inner m w n (suc zero) count from i h e a g k = (omega (arith, e refl), ome
 rows_inner m w n (suc (suc l)) count from i h e a g k =
     (omega (arith, suc-mul (suc l) w, suc-mul l w, i.column (suc (suc l)) a (omega arith) k), omega (arith, i.place (suc (suc l)) a (omega arith) k))
 
-pub below_eight : {m : List ℕ} {w n : ℕ} {t : Bool} {lines len : ℕ} → LinesInside m w n t lines len → Below m 8
-below_eight {m} {w} {n} i j = omega (arith, below_all m n (omega (arith, i.two)) i.below j, i.eight)
-
 -- ---- the words of keys
 
 -- one word more, and two runs of words

@@ -1,3 +1,4 @@
+pub mod Bit
 pub mod Keys
 pub mod Lines
 pub mod Remove

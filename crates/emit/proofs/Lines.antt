@@ -1,5 +1,5 @@
 -- Lines within a map, the length of a line's words, and the context of the next flag. Assumes nothing.
-use Prim.Native.Nat.{ℕ, zero, suc, ◌+◌, ◌≤◌}
+use Prim.Native.Nat.{ℕ, zero, suc, ◌+◌, ◌*◌, ◌≤◌, ◌<◌}
 use mathlib.Core.Path.{◌≡◌, refl}
 use mathlib.Core.Bool.{Bool}
 use mathlib.Core.List.{List}
@@ -7,6 +7,9 @@ use native.Mathlib.Numerals.{add-one}
 use native.Mathlib.Omega.{arith}
 use lib.ListN.{length, get_or}
 use Rattle.lists.proofs.Counted.{length_up_to}
+use Rattle.context.specs.Map.{row_at, col_at}
+use Rattle.emit.specs.declared.IndexMap.{IndexMap}
+use Rattle.emit.specs.Lines.{lines_in, length_in}
 use Rattle.emit.specs.Map.{LinesInside, line_word, sent_cells, row_context, line_words}
 
 -- fewer and shorter lines
@@ -19,6 +22,14 @@ narrower l k h g i =
       place = λ j a p q. i.place j a (omega arith) (omega arith);
       below = i.below;
     }
+
+-- a cell of the map's lines lies in the map
+abbrev pub Placed : IndexMap → ℕ → ℕ → Type 0
+Placed m l a =
+    (col_at m.transposed l a < m.w) × (row_at m.transposed l a * m.w + col_at m.transposed l a < length m.cells.now)
+
+pub placed : (m : IndexMap) (l a : ℕ) → l < lines_in m → a < length_in m → Placed m l a
+placed m l a h g = (m.inside.column l a h g, m.inside.place l a h g)
 
 pub sent_few : (f len : ℕ) → 1 ≤ len → sent_cells f len ≤ len
 unfolding sent_cells

@@ -1,3 +1,4 @@
 pub mod Colors
 pub mod Map
 pub mod Keys
+pub mod Lines

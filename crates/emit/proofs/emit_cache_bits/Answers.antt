@@ -7,14 +7,13 @@ use lib.Dec.{ltb}
 use lib.ListN.{length, drop, get_or, drop_of_length-le}
 use lib.Seq.{drop-cons, length-take-le}
 use borrow.Author.Rules.{rules}
-use borrow.Kind.Array.{good_length, e_int}
-use mir.Syntax.{w16}
 use Rattle.lists.specs.Counted.{elem, bit}
 use Rattle.lists.specs.Written.{written}
 use Rattle.literals.specs.Words.{bypass}
 use Rattle.emit.specs.Colors.{remove, cache_words, untaken}
 use Rattle.emit.specs.declared.Left.{Left}
-use Rattle.emit.proofs.Remove.{ascends_remove, length_remove, elem_shorter}
+use Rattle.emit.proofs.Bit.{byte_bit, bit_low}
+use Rattle.emit.proofs.Remove.{elem_shorter}
 use Rattle.emit.proofs.Untaken.{cache_step, cache_none, untaken_none}
 use Rattle.emit.proofs.emit_cache_bits.Invariants.{Inv, colors_of}
 use Rattle.emit.proofs.emit_cache_bits.Goals as goal
@@ -64,23 +63,19 @@ module _ (cache out₀ : List ℕ) (at : ℕ) (left₀ : Left) (out : List ℕ) 
         hb ∙ ap (λ (x : ℕ). bit (ltb x left.count)) hc ∙ ap (λ (x : ℕ). bit (ltb (length (remove this L)) x)) v.count
         ∙ ap bit (elem_shorter this L) in
         record {
-          seen = omega arith;
-          few = omega (arith, v.few, v.count, length_remove this L);
           count = hc ∙ ap length (sym hl);
-          rising = rw hl (ascends_remove this L v.rising);
           size = hs ∙ v.size;
           place = rw (hp, hl) (omega (arith, v.place, ap length sent));
           wrote = rw (ho, hp, hl, told) (rw sent at v.wrote);
           kept = rw hl (rw (split more) at v.kept);
         }
 
-pub loop-i-init : goal.loop-i-init
-loop-i-init c =
+pub loop-entry-init : goal.loop-entry-init
+loop-entry-init c =
     record {
-      seen = search rules;
-      few = c.requires.n_bound.0;
-      count = sym (length-take-le c.args.n c.args.colors (omega (arith, c.requires.n_bound.0, good_length (e_int w16) 8 c.args.colors _ c.well_formed.0)));
-      rising = c.requires.n_bound.1;
+      count =
+          let eight : length c.args.all.colors ≡ 8 = search rules in
+          sym (length-take-le c.args.all.count c.args.all.colors (omega (arith, eight, c.args.all.few)));
       size = refl;
       place = refl;
       wrote = refl;
@@ -98,32 +93,29 @@ same cache cs i h = rw (drop_of_length-le cache {i = i} h) refl
 
 pub returns-then-count-eq0 : goal.returns-then-count-eq0
 returns-then-count-eq0 c =
-    let l = c.loop-i in
+    let l = c.loop-entry in
     let none : length (colors_of l.left) ≡ 0 = omega (arith, l.invariant.count, c.if-count-eq0.true) in
-    let e = ended _ _ _ _ _ _ _ l.i l.invariant (cache_none _ (colors_of l.left) none) (untaken_none _ (colors_of l.left) none) in
+    let e = ended _ _ _ _ _ _ _ l.entry-index l.invariant (cache_none _ (colors_of l.left) none) (untaken_none _ (colors_of l.left) none) in
     record { count_value = e.count; colors_value = e.kept; next_value = e.place; out_after = e.wrote }
-
-pub leave_out-left-requires : goal.leave_out-left-requires
-leave_out-left-requires c = let v = c.loop-i.invariant in (v.few, v.rising)
 
 pub put_bypass-pos-requires : goal.put_bypass-pos-requires
 put_bypass-pos-requires c =
-    let some : 0 < length (colors_of c.loop-i.left) = omega (arith, c.loop-i.invariant.count, c.if-count-eq0.false) in
-    let l = c.loop-i in
-    let h : l.pos < length l.out = fits _ _ _ _ _ _ _ l.i l.invariant c.loop-i-test.true some c.requires.colors_in_bounds in
-    (omega arith, omega (arith, c.bit_of.ensures.1), h)
+    let some : 0 < length (colors_of c.loop-entry.left) = omega (arith, c.loop-entry.invariant.count, c.if-count-eq0.false) in
+    let l = c.loop-entry in
+    let h : l.pos < length l.out = fits _ _ _ _ _ _ _ l.entry-index l.invariant c.loop-entry-test.true some c.requires in
+    (omega arith, omega (arith, bit_low _ _ c.from.ensures), h)
 
-pub loop-i-preserved : goal.loop-i-preserved
-loop-i-preserved c =
-    let some : 0 < length (colors_of c.loop-i.left) = omega (arith, c.loop-i.invariant.count, c.if-count-eq0.false) in
-    let l = c.loop-i in
+pub loop-entry-preserved : goal.loop-entry-preserved
+loop-entry-preserved c =
+    let some : 0 < length (colors_of c.loop-entry.left) = omega (arith, c.loop-entry.invariant.count, c.if-count-eq0.false) in
+    let l = c.loop-entry in
     let p = c.put_bypass-pos in
-    let k = c.leave_out-left in
-    turn _ _ _ _ _ _ _ l.i l.invariant c.loop-i-test.true some k.result p.new.out p.result _
-    k.ensures.count_value k.ensures.colors_value c.bit_of.ensures.0 p.ensures.0 p.ensures.1 p.auto.out
+    let k = c.without-left in
+    turn _ _ _ _ _ _ _ l.entry-index l.invariant c.loop-entry-test.true some k.result p.new.out p.result _
+    k.ensures.count_value k.ensures.colors_value (c.from.ensures ∙ byte_bit _) p.ensures.0 p.ensures.1 p.auto.out
 
 pub returns : goal.returns
 returns c =
-    let l = c.loop-i in
-    let e = ended _ _ _ _ _ _ _ l.i l.invariant (none _ _ l.i (omega arith)) (same _ _ l.i (omega arith)) in
+    let l = c.loop-entry in
+    let e = ended _ _ _ _ _ _ _ l.entry-index l.invariant (none _ _ l.entry-index (omega arith)) (same _ _ l.entry-index (omega arith)) in
     record { count_value = e.count; colors_value = e.kept; next_value = e.place; out_after = e.wrote }

@@ -1,9 +1,4 @@
-use Prim.Native.Nat.{ℕ, ◌≤◌, ◌+◌, ◌-◌}
-use mathlib.Core.Path.{◌≡◌}
-use mathlib.Core.Bool.{true}
-use mathlib.Core.List.{List}
-use lib.ListN.{length, take, drop}
-use Rattle.lists.specs.Counted.{ascending}
+use Rattle.std.proofs.Common.{ℕ, ◌+◌, ◌≡◌, List, length, take, drop}
 use Rattle.lists.specs.Written.{written}
 use Rattle.emit.specs.Colors.{cache_words, untaken}
 use Rattle.emit.specs.declared.Left.{Left}
@@ -14,17 +9,11 @@ colors_of left = take left.count left.colors
 
 -- what is left to send, written now, gives the whole
 pub record Inv (cache out₀ : List ℕ) (at : ℕ) (left₀ : Left) (out : List ℕ) (left : Left) (pos i : ℕ) : Type 0 where
-  pub seen : i ≤ length cache
-  pub few : left.count ≤ 8
   pub count : left.count ≡ length (colors_of left)
-  pub rising : ascending (colors_of left) ≡ true
   pub size : length out ≡ length out₀
   pub place : pos + length (cache_words (drop i cache) (colors_of left)) ≡ at + length (cache_words cache (colors_of left₀))
   pub wrote : written out pos (cache_words (drop i cache) (colors_of left)) ≡ written out₀ at (cache_words cache (colors_of left₀))
   pub kept : untaken (drop i cache) (colors_of left) ≡ untaken cache (colors_of left₀)
 
-abbrev pub invariant-loop-i : goal.invariant-loop-i
-invariant-loop-i l = Inv l.cache l.initial.out l.at l.initial.left l.out l.left l.pos l.i
-
-abbrev pub decreases-loop-i : goal.decreases-loop-i
-decreases-loop-i l = length l.cache - l.i
+abbrev pub invariant-loop-entry : goal.invariant-loop-entry
+invariant-loop-entry l = Inv l.cache l.initial.out l.at l.initial.left l.out l.left l.pos l.entry-index

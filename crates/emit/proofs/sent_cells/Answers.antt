@@ -1,6 +1,5 @@
-use Prim.Native.Nat.{ℕ, zero, suc}
+use Rattle.std.proofs.Common.{ℕ, zero, suc, ◌≡◌, refl, arith}
 use Rattle.emit.specs.Map.{sent_cells}
-use mathlib.Core.Path.{◌≡◌, refl}
 use Rattle.emit.proofs.sent_cells.Goals as goal
 
 -- neither 0 nor 1
@@ -10,13 +9,13 @@ many zero len p q = absurd (p refl)
 many (suc zero) len p q = absurd (q refl)
 many (suc (suc f)) len p q = refl
 
-pub returns-then-flag-eq0 : goal.returns-then-flag-eq0
+pub returns-in-0 : goal.returns-in-0
 unfolding sent_cells
-returns-then-flag-eq0 c = rw c.if-flag-eq0.true refl
+returns-in-0 c = rw c.in-0.is refl
 
-pub returns-then-flag-eq1 : goal.returns-then-flag-eq1
+pub returns-in-1 : goal.returns-in-1
 unfolding sent_cells
-returns-then-flag-eq1 c = rw c.if-flag-eq1.true refl
+returns-in-1 c = rw c.in-1.is refl
 
-pub returns : goal.returns
-returns c = many _ _ c.if-flag-eq0.false c.if-flag-eq1.false
+pub returns-in_default : goal.returns-in_default
+returns-in_default c = many _ _ (omega arith) (omega arith)
