@@ -1,16 +1,18 @@
 // The 301 costs of the palette symbols from their cumulative rows, in sixteenths of a bit.
 #![tactic(auto)]
 
-ghost use Rattle.std.specs.Prelude.{◌≡◌, ◌⊎◌, ◌+◌, ◌≤◌, ◌<◌, length, get_or};
-ghost use Rattle.costs.specs.Cost.{cost_of, sixteenths};
-ghost use Rattle.costs.specs.Thresholds.{threshold_table};
-ghost use Rattle.lists.specs.Counted.{part, each};
+ghost use Rattle.std.specs.Prelude.{◌≡◌, ◌+◌, ◌<◌, ◌≤◌, length, get_or, IfOk};
+ghost use Rattle.lists.specs.Counted.{each};
+ghost use Rattle.refusals.specs.Numbers.{number};
 ghost use Rattle.tables.specs.Icdf.{color_rows};
+ghost use Rattle.costs.specs.Cost.{cost_of, sixteenths};
 ghost use Rattle.costs.specs.Rows.{before, chance_of, row_at, defaults, number_ok, row_ok, rows_ok};
 ghost use Rattle.costs.specs.Costs.{cost_in, table_costs, table_of, costs_number, MakesCosts};
 
+use refusals::Refusal;
+
 // t[c] is the largest p with 2^c * p^16 <= 2^240. From 171 on neighbours may be equal: the last one counts.
-const THRESHOLDS: [u16; 241] = [
+static THRESHOLDS: [u16; 241] = [
     32768, 31378, 30048, 28774, 27554, 26386, 25267, 24196, 23170, 22188, 21247, 20346, 19483,
     18657, 17866, 17109, 16384, 15689, 15024, 14387, 13777, 13193, 12633, 12098, 11585, 11094,
     10623, 10173, 9741, 9328, 8933, 8554, 8192, 7844, 7512, 7193, 6888, 6596, 6316, 6049, 5792,
@@ -27,6 +29,7 @@ const THRESHOLDS: [u16; 241] = [
 ];
 
 // The number of the answer, and the 301 costs; zeros where the number is not 0.
+// Stays (1): `station` hands it over to C, and document 02's `MakesCosts` speaks of the number and the costs.
 #[derive(Drop)]
 pub struct Costs {
     pub number: u32,
@@ -34,50 +37,39 @@ pub struct Costs {
 }
 
 // A row of a table: where it starts, how many of its numbers are used, and how many places it has.
-#[derive(Drop)]
+#[derive(Clone, Copy)]
 pub struct Row {
     pub at: usize,
     pub used: usize,
     pub room: usize,
 }
 
-// The last c whose threshold is at least p. Thresholds never rise, so it is the number of those behind the first that are;
-// counting takes eight of them at once, where halving jumps by p.
-fn last_met(thresholds: &[u16], p: u16) -> u16
-    requires { thresholds.now ≡ threshold_table }
-    ensures { result ≡ cost_of p }
-{
-    let mut c: u16 = 0;
-    let mut i: usize = 1;
-    while i < 241 {
-        if p <= thresholds[i] {
-            c += 1;
-        }
-        i += 1;
-    }
-    c
-}
-
-// The cost of probability p in sixteenths of a bit.
+// The cost of probability p in sixteenths of a bit: the last c whose threshold is at least p. Thresholds never rise, so it is
+// the number of those behind the first that are; counting takes eight of them at once, where halving jumps by p.
 pub fn cost_of(p: u16) -> u16
     ensures { result ≡ cost_of p }
 {
-    let thresholds = THRESHOLDS;
-    last_met(&thresholds, p)
+    let mut c: u16 = 0;
+    for threshold in &THRESHOLDS[1..] {
+        if p <= *threshold {
+            c += 1;
+        }
+    }
+    c
 }
 
 // c / 16
 fn sixteenth(c: u16) -> f32
     ensures { result ≡ sixteenths c }
 {
-    (c as f32) / 16.0
+    f32::from(c) / 16.0
 }
 
 // Number i of a row; 0 past its end.
 fn number_at(row: &[u16], i: usize) -> u16
     ensures { result ≡ get_or row.now i 0 }
 {
-    if i < row.len() { row[i] } else { 0 }
+    row.get(i).copied().unwrap_or(0)
 }
 
 // What stands before symbol s of a row.
@@ -94,102 +86,54 @@ fn number_before(row: &[u16], s: usize) -> u16
 fn chance(row: &[u16], s: usize) -> u16
     ensures { result ≡ chance_of row.now s }
 {
-    let above = number_before(row, s);
-    let here = number_at(row, s);
-    if here <= above {
-        return above - here;
-    }
-    0
+    number_before(row, s).saturating_sub(number_at(row, s))
 }
 
 // The cost of symbol s of a row; unused ones cost 0.
-fn cost_in(thresholds: &[u16], row: &[u16], s: usize) -> f32
-    requires { thresholds.now ≡ threshold_table }
+fn cost_in(row: &[u16], s: usize) -> f32
     ensures { result ≡ cost_in row.now s }
 {
     if row.len() < s {
         return 0.0;
     }
-    sixteenth(last_met(thresholds, chance(row, s)))
+    sixteenth(cost_of(chance(row, s)))
 }
 
 // The costs of a row's symbols, and zeros for the unused ones behind them.
-fn put_costs(thresholds: &[u16], row: &[u16], costs: &mut [f32])
-    requires { thresholds.now ≡ threshold_table }
+fn put_costs(row: &[u16], costs: &mut [f32])
     ensures { costs.new ≡ each (cost_in row.now) (length costs.old) }
 {
-    let mut s: usize = 0;
-    while s < costs.len() {
-        costs[s] = cost_in(thresholds, row, s);
-        s += 1;
+    for (s, cost) in costs.iter_mut().enumerate() {
+        *cost = cost_in(row, s);
     }
 }
 
 // Row r: mode, size, one for each of four line contexts, then one for each of five contexts for each n from 2.
 fn row_at(r: usize) -> Row
     requires { r < 41 }
-    ensures { result ≡ row_at r }
+    ensures row { result ≡ row_at r }
+    ensures inside { (result.used ≤ result.room) × (result.at + result.room ≤ 260) }
 {
-    if r < 1 {
-        return Row {
-            at: 0,
-            used: 1,
-            room: 1,
-        };
-    }
-    if r < 2 {
-        return Row {
-            at: 1,
-            used: 6,
-            room: 6,
-        };
-    }
-    if r < 6 {
-        return Row {
-            at: 7 + (r - 2) * 2,
-            used: 2,
-            room: 2,
-        };
-    }
-    let k = r - 6;
-    Row {
-        at: 15 + k * 7,
-        used: k / 5 + 1,
-        room: 7,
-    }
+    let (at, used, room) = match r {
+        0 => (0, 1, 1),
+        1 => (1, 6, 6),
+        2..=5 => (7 + (r - 2) * 2, 2, 2),
+        _ => (15 + (r - 6) * 7, (r - 6) / 5 + 1, 7),
+    };
+    Row { at, used, room }
 }
 
-// The row comes from the adapted table when one is lent, else from the default.
-fn row_of<'a>(adapted: &'a [u16], default: &'a [u16], at: usize, len: usize) -> &'a [u16]
-    requires { (at + len ≤ 260) × (length default.now ≡ 260) × ((length adapted.now ≡ 0) ⊎ (length adapted.now ≡ 260)) }
-    ensures { result.now ≡ part (table_of adapted.now default.now) at len }
+// All the costs of a table: each row has one more of them than it has places.
+fn all_costs(table: &[u16]) -> [f32; 301]
+    requires { length table.now ≡ 260 }
+    ensures { result ≡ table_costs table.now }
 {
-    let end = at + len;
-    if adapted.len() == 0 {
-        return &default[at..end];
-    }
-    &adapted[at..end]
-}
-
-// All the costs: each row has one more of them than it has places. The thresholds are copied once and lent down: each
-// reading of a constant table copies it.
-fn all_costs<'a>(adapted: &'a [u16], default: &'a [u16]) -> [f32; 301]
-    requires { (length default.now ≡ 260) × ((length adapted.now ≡ 0) ⊎ (length adapted.now ≡ 260)) }
-    ensures { result ≡ table_costs (table_of adapted.now default.now) }
-{
-    let thresholds = THRESHOLDS;
     let mut costs = [0.0f32; 301];
-    let mut r: usize = 0;
-    while r < 41 {
+    for r in 0..41 {
         let row = row_at(r);
         let from = row.at + r;
-        let to = from + row.room + 1;
-        put_costs(
-            &thresholds,
-            row_of(adapted, default, row.at, row.used),
-            &mut costs[from..to],
-        );
-        r += 1;
+        let used = &table[row.at..row.at + row.used];
+        put_costs(used, &mut costs[from..from + row.room + 1]);
     }
     costs
 }
@@ -199,16 +143,12 @@ fn default_at(colors: &[u16], k: usize) -> u16
     requires { (colors.now ≡ color_rows) × (k < 260) }
     ensures { result ≡ get_or defaults k 0 }
 {
-    if k < 1 {
-        return 2723;
+    match k {
+        0 => 2723,
+        1..=6 => tables::y_size_icdf(k - 1),
+        7..=14 => tables::row_icdf((k - 7) / 2, (k - 7) % 2),
+        _ => colors[k - 15],
     }
-    if k < 7 {
-        return tables::y_size_icdf(k - 1);
-    }
-    if k < 15 {
-        return tables::row_icdf((k - 7) / 2, (k - 7) % 2);
-    }
-    colors[k - 15]
 }
 
 // The default table, laid out as an adapted one.
@@ -217,10 +157,8 @@ fn default_table() -> [u16; 260]
 {
     let colors = tables::color_rows();
     let mut table = [0u16; 260];
-    let mut k: usize = 0;
-    while k < 260 {
-        table[k] = default_at(&colors, k);
-        k += 1;
+    for (k, number) in table.iter_mut().enumerate() {
+        *number = default_at(&colors, k);
     }
     table
 }
@@ -240,12 +178,10 @@ fn number_ok(row: &[u16], used: usize, s: usize) -> bool
 fn row_ok(row: &[u16], used: usize) -> bool
     ensures { result ≡ row_ok used row.now }
 {
-    let mut s: usize = 0;
-    while s < row.len() {
+    for s in 0..row.len() {
         if !number_ok(row, used, s) {
             return false;
         }
-        s += 1;
     }
     true
 }
@@ -255,45 +191,41 @@ fn rows_ok(table: &[u16]) -> bool
     requires { length table.now ≡ 260 }
     ensures { result ≡ rows_ok table.now }
 {
-    let mut r: usize = 0;
-    while r < 41 {
+    for r in 0..41 {
         let row = row_at(r);
-        let at = row.at;
-        let end = at + row.room;
-        if !row_ok(&table[at..end], row.used) {
+        if !row_ok(&table[row.at..row.at + row.room], row.used) {
             return false;
         }
-        r += 1;
     }
     true
 }
 
-// The number of the answer.
-fn costs_number(adapted: &[u16]) -> u32
-    ensures { result ≡ costs_number adapted.now }
+// The costs of an adapted table, or of the default one where none is lent.
+fn costs_of(adapted: &[u16]) -> Result<[f32; 301], Refusal>
+    ensures refused { number result ≡ costs_number adapted.now }
+    ensures made { IfOk result (λ costs. costs ≡ table_costs (table_of adapted.now defaults)) }
 {
-    if adapted.len() == 0 {
-        return 0;
+    if adapted.is_empty() {
+        return Ok(all_costs(&default_table()));
     }
     if adapted.len() != 260 {
-        return 24;
+        return Err(Refusal::AdaptedLength);
     }
     if !rows_ok(adapted) {
-        return 25;
+        return Err(Refusal::AdaptedRows);
     }
-    0
+    Ok(all_costs(adapted))
 }
 
 // The 301 costs from an adapted table, or from the default where none is lent.
 pub fn make_costs(adapted: &[u16]) -> Costs
     ensures { MakesCosts adapted.now result }
 {
-    let number = costs_number(adapted);
-    if number == 0 {
-        let default = default_table();
-        let costs = all_costs(adapted, &default);
-        return Costs { number, costs };
+    match costs_of(adapted) {
+        Ok(costs) => Costs { number: 0, costs },
+        Err(refusal) => Costs {
+            number: refusal.number(),
+            costs: [0.0f32; 301],
+        },
     }
-    let costs = [0.0f32; 301];
-    Costs { number, costs }
 }

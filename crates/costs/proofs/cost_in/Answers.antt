@@ -8,11 +8,8 @@ pub returns-then-row-s : goal.returns-then-row-s
 unfolding cost_in
 returns-then-row-s c = simp (lt-leb _ _ c.if-row-s.true)
 
-pub last_met-requires : goal.last_met-requires
-last_met-requires c = c.requires
-
 pub returns : goal.returns
 unfolding cost_in
 returns c =
     simp (le-leb _ _ c.if-row-s.false)
-    (c.sixteenth.ensures ∙ ap sixteenths (c.last_met.ensures ∙ ap cost_of c.chance.ensures))
+    (c.sixteenth.ensures ∙ ap sixteenths (c.cost_of.ensures ∙ ap cost_of c.chance.ensures))

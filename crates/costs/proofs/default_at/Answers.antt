@@ -7,27 +7,25 @@ use Rattle.tables.proofs.Flat as flat
 use Rattle.costs.proofs.Defaults.{by_place_is}
 use Rattle.costs.proofs.default_at.Goals as goal
 
-pub returns-then-k-lt1 : goal.returns-then-k-lt1
-returns-then-k-lt1 c = simp (lt-ltb _ _ c.if-k-lt1.true) at (by_place_is _ c.requires.1)
+pub returns-in-0 : goal.returns-in-0
+returns-in-0 c = simp (lt-ltb c.args.k 1 (omega arith)) at (by_place_is _ c.requires.1)
 
-pub returns-then-k-lt7 : goal.returns-then-k-lt7
-returns-then-k-lt7 c =
+pub returns-in-1-to-6 : goal.returns-in-1-to-6
+returns-in-1-to-6 c =
     c.y_size_icdf.ensures
-    ∙ simp (le-ltb _ _ c.if-k-lt1.false, lt-ltb _ _ c.if-k-lt7.true) at (by_place_is _ c.requires.1)
+    ∙ simp (le-ltb c.args.k 1 (omega arith), lt-ltb c.args.k 7 (omega arith)) at (by_place_is _ c.requires.1)
 
-pub returns-then-k-lt15 : goal.returns-then-k-lt15
-returns-then-k-lt15 c =
+pub returns-in-7-to-14 : goal.returns-in-7-to-14
+returns-in-7-to-14 c =
     c.row_icdf.ensures
-    ∙ simp (le-ltb _ _ c.if-k-lt1.false, le-ltb _ _ c.if-k-lt7.false, lt-ltb _ _ c.if-k-lt15.true) at
+    ∙ simp (le-ltb c.args.k 1 (omega arith), le-ltb c.args.k 7 (omega arith), lt-ltb c.args.k 15 (omega arith)) at
     (by_place_is _ c.requires.1)
 
 pub bounds-colors-k : goal.bounds-colors-k
-bounds-colors-k c =
-    let pre = c.requires in
-    omega (arith, ap length pre.0, flat.count, pre.1, c.if-k-lt15.false)
+bounds-colors-k c = omega (arith, ap length c.requires.0, flat.count)
 
-pub returns : goal.returns
-returns c =
-    let pre = c.requires in
-    ap (λ l. get_or l (c.args.k - 15) 0) pre.0
-    ∙ simp (le-ltb _ _ c.if-k-lt1.false, le-ltb _ _ c.if-k-lt7.false, le-ltb _ _ c.if-k-lt15.false) at (by_place_is _ pre.1)
+pub returns-in_default : goal.returns-in_default
+returns-in_default c =
+    ap (λ l. get_or l (c.args.k - 15) 0) c.requires.0
+    ∙ simp (le-ltb c.args.k 1 (omega arith), le-ltb c.args.k 7 (omega arith), le-ltb c.args.k 15 (omega arith)) at
+    (by_place_is _ c.requires.1)

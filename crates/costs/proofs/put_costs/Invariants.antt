@@ -1,5 +1,3 @@
-use mathlib.Core.Path.{◌≡◌}
-use Prim.Native.Nat.{◌-◌}
 use lib.ListN.{length}
 use lib.Ieee.{nan}
 use Rattle.lists.specs.Counted.{each}
@@ -8,7 +6,4 @@ use Rattle.costs.specs.Costs.{cost_in}
 use Rattle.costs.proofs.put_costs.Given as goal
 
 abbrev pub invariant-loop-s : goal.invariant-loop-s
-invariant-loop-s l = (length l.costs ≡ length l.initial.costs) × Filled nan (each (cost_in l.row) (length l.initial.costs)) l.costs l.s
-
-abbrev pub decreases-loop-s : goal.decreases-loop-s
-decreases-loop-s l = length l.initial.costs - l.s
+invariant-loop-s l = Filled nan (each (cost_in l.row) (length l.initial.costs)) l.costs l.s

@@ -1,5 +1,4 @@
-use mathlib.Core.Path.{◌∙◌}
-use mathlib.Core.Path.{◌≡◌, sym}
+use mathlib.Core.Path.{◌≡◌, sym, ◌∙◌}
 use mathlib.Core.Bool.{true}
 use native.Mathlib.Omega.{arith}
 use borrow.Author.Count.{below_more}
@@ -7,24 +6,12 @@ use Rattle.lists.proofs.Counted.{all_below_not, all_below_of}
 use Rattle.costs.specs.Rows.{number_ok, row_ok}
 use Rattle.costs.proofs.row_ok.Goals as goal
 
-pub loop-s-init : goal.loop-s-init
-loop-s-init c i h = absurd (omega arith)
-
-pub number_ok-requires : goal.number_ok-requires
-number_ok-requires c = tt
-
 pub returns-then-not-number_ok : goal.returns-then-not-number_ok
 unfolding row_ok
 returns-then-not-number_ok c =
     let a = c.args in
     sym (all_below_not (number_ok a.used a.row.now) _ c.loop-s.s c.loop-s-test.true
     (sym c.number_ok.ensures ∙ c.if-not-number_ok.true))
-
-pub overflow_add-s : goal.overflow_add-s
-overflow_add-s c = omega arith
-
-pub loop-s-smaller : goal.loop-s-smaller
-loop-s-smaller c = omega arith
 
 pub loop-s-preserved : goal.loop-s-preserved
 loop-s-preserved c =

@@ -1,11 +1,8 @@
 use mathlib.Core.Path.{◌≡◌}
 use mathlib.Core.Bool.{true}
-use Prim.Native.Nat.{ℕ, ◌-◌, ◌≤◌, ◌<◌}
+use Prim.Native.Nat.{ℕ, ◌<◌}
 use Rattle.costs.specs.Rows.{table_row_ok}
 use Rattle.costs.proofs.rows_ok.Given as goal
 
 abbrev pub invariant-loop-r : goal.invariant-loop-r
-invariant-loop-r l = (l.r ≤ 41) × ((i : ℕ) → i < l.r → table_row_ok l.table i ≡ true)
-
-abbrev pub decreases-loop-r : goal.decreases-loop-r
-decreases-loop-r l = 41 - l.r
+invariant-loop-r l = (i : ℕ) → i < l.r → table_row_ok l.table i ≡ true

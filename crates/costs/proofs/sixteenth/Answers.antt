@@ -5,4 +5,4 @@ use Rattle.costs.proofs.sixteenth.Goals as goal
 
 pub returns : goal.returns
 unfolding div sixteenths of_int of_bits
-returns c = refl
+returns c = rw c.from.ensures refl
