@@ -188,7 +188,7 @@ fn none_above(costs: &[f32], at: usize, most: f32) -> bool
 }
 
 // What no cost of a cell among n colours exceeds; or nan.
-fn cap_of(costs: &[f32], n: usize) -> f32
+pub fn cap_of(costs: &[f32], n: usize) -> f32
     requires { (2 ≤ n) × (n ≤ 8) × (length costs.now ≡ 301) }
     ensures { Capped costs.now n result }
 {
@@ -213,7 +213,7 @@ fn mark(colors: &[f32; 8], i: usize, n: usize) -> f32
 }
 
 // The marks for `guess`; they may be any numbers.
-fn marks_of(colors: &[f32; 8], n: usize) -> [f32; 8] {
+pub fn marks_of(colors: &[f32; 8], n: usize) -> [f32; 8] {
     [
         mark(colors, 0, n),
         mark(colors, 1, n),
@@ -240,7 +240,7 @@ fn guess(x: f32, marks: &[f32; 8]) -> usize
 }
 
 // For each index b eight places: whether index i is past n, or b itself.
-fn skips_of(n: usize) -> [bool; 64]
+pub fn skips_of(n: usize) -> [bool; 64]
     ensures { Skips n result }
 {
     let mut skips = [false; 64];
@@ -289,7 +289,44 @@ fn sole_cell(dists: &[f32; 8], rates: &[f32; 8], codes: &rows::Codes, row: usize
     }
 }
 
-// What is made once for a size. The costs are not negative, and lambda is finite.
+// A cell's cost by rank; `first` at (0,0).
+pub fn rates(costs: &[f32], n: usize, ctx: usize, first: bool) -> [f32; 8]
+    requires { (2 ≤ n) × (n ≤ 8) × (ctx < 5) × (length costs.now ≡ 301) }
+    ensures { result ≡ rates_of costs.now n ctx first }
+{
+    if first {
+        return uniform_rates(n as u8);
+    }
+    eight_from(costs, 21 + ((n - 2) * 5 + ctx) * 8)
+}
+
+// The cheapest index for the sample x, the first of the cheapest in rank order.
+// Stays (5): a `Pricing` would ask for more, the length of the costs and two colours.
+pub fn choose_cell(
+    x: f32,
+    colors: &[f32; 8],
+    orders: &rows::Orders,
+    row: usize,
+    rates: &[f32; 8],
+    n: usize,
+    lambda: f32,
+) -> Cell
+    requires { Fits row n × (0 < n) × (n ≤ 8) }
+    ensures { result ≡ cell_of (squares_of x colors.now) rates.now lambda (row_order row n) }
+{
+    let dists = squares(x, colors);
+    let p = pick_by(&dists, rates, orders, row, n, lambda);
+    let cost = Cost {
+        dist: dists[p.index],
+        rate: rates[p.rank],
+    };
+    Cell {
+        index: p.index as u8,
+        cost,
+    }
+}
+
+// What is made once for a size.
 #[derive(Drop)]
 pub struct Pricing<'a> {
     pub costs: &'a [f32],
@@ -301,13 +338,12 @@ pub struct Pricing<'a> {
     pub skips: [bool; 64],
     pub ghost few: { (2 ≤ n) × (n ≤ 8) },
     pub ghost full: { length costs.now ≡ 301 },
-    pub ghost priced: { ∥ Priced costs.now lambda ∥₁ },
     pub ghost sure: { ∥ Sure costs.now n cap skips ∥₁ },
 }
 
 impl<'a> Pricing<'a> {
     pub fn new(costs: &'a [f32], colors: [f32; 8], n: usize, lambda: f32) -> Self
-        requires { (2 ≤ n) × (n ≤ 8) × (length costs.now ≡ 301) × Priced costs.now lambda }
+        requires { (2 ≤ n) × (n ≤ 8) × (length costs.now ≡ 301) }
         ensures { (result.costs.now ≡ costs.entry.now) × (result.n ≡ n) × (result.lambda ≡ lambda) × (result.colors ≡ colors) }
     {
         let marks = marks_of(&colors, n);
@@ -329,10 +365,7 @@ impl<'a> Pricing<'a> {
         requires { ctx < 5 }
         ensures { result ≡ rates_of self.now.costs.now self.now.n ctx first }
     {
-        if first {
-            return uniform_rates(self.n as u8);
-        }
-        eight_from(self.costs, 21 + ((self.n - 2) * 5 + ctx) * 8)
+        rates(self.costs, self.n, ctx, first)
     }
 
     // The cheapest index for the sample x, the first of the cheapest in rank order.
@@ -340,21 +373,13 @@ impl<'a> Pricing<'a> {
         requires { Fits row self.now.n }
         ensures { result ≡ cell_of (squares_of x self.now.colors) rates.now self.now.lambda (row_order row self.now.n) }
     {
-        let dists = squares(x, &self.colors);
-        let p = pick_by(&dists, rates, orders, row, self.n, self.lambda);
-        let cost = Cost {
-            dist: dists[p.index],
-            rate: rates[p.rank],
-        };
-        Cell {
-            index: p.index as u8,
-            cost,
-        }
+        choose_cell(x, &self.colors, orders, row, rates, self.n, self.lambda)
     }
 
     // As `choose`, but not for (0,0): at once where one index is the cheapest whatever the ranks.
+    // Stays (5): `Priced` is asked here and by whom this serves, since `rates` and `choose` never asked for it.
     pub fn quick_cell(&self, tables: &rows::Tables, row: usize, ctx: usize, x: f32) -> Cell
-        requires { Fits row self.now.n × (ctx < 5) }
+        requires { Fits row self.now.n × (ctx < 5) × Priced self.now.costs.now self.now.lambda }
         ensures { result ≡ cell_of (squares_of x self.now.colors) (rates_of self.now.costs.now self.now.n ctx false)
             self.now.lambda (row_order row self.now.n) }
     {

@@ -10,4 +10,3 @@ pub mod CellBounds
 pub mod LineBounds
 pub mod WalkBounds
 pub mod FromInfinity
-pub mod Sets

@@ -7,6 +7,7 @@ ghost use Rattle.std.specs.Float.Ieee.{add};
 ghost use Rattle.context.specs.Map.{row_at, col_at};
 ghost use Rattle.near.specs.Near.{Below};
 ghost use Rattle.cells.specs.Cell.{square, total_of, cheapest, eight};
+ghost use Rattle.cells.specs.Sure.{Priced};
 ghost use Rattle.scan.specs.Scan.{cell_in, fill, key_in, Sound};
 ghost use Rattle.map_search.specs.Lines.{dist_line, row_cost, cell_at, copied_by, line_of, put_line, map_of};
 ghost use Rattle.map_search.specs.Parts.{best_of, Halted, constant_by, constants_by, Built};
@@ -150,7 +151,8 @@ impl<'a> Search<'a> {
     // The cheapest index of cell a of line l.
     fn one_cell(&self, map: &[u8], l: usize, a: usize) -> Cell
         requires { (length self.now.samples.now ≤ length map.now) × (l < self.now.scan.lines) × (a < self.now.scan.len)
-            × Below map.now self.now.pricing.now.n }
+            × Below map.now self.now.pricing.now.n
+            × Priced self.now.pricing.now.costs.now self.now.pricing.now.lambda }
         ensures { let p = self.now.pricing.now in
             result ≡ cell_at self.now.samples.now p.costs.now p.colors p.n p.lambda self.now.scan map.now l a }
     {
@@ -165,7 +167,8 @@ impl<'a> Search<'a> {
 
     // Line l cell by cell, into the map: its cost. It stops where the total has reached the limit.
     fn cell_by_cell(&self, map: &mut [u8], l: usize, row: f32, limit: f32) -> Cost
-        requires { (length self.now.samples.now ≤ length map.old) × (l < self.now.scan.lines) × Below map.old self.now.pricing.now.n }
+        requires { (length self.now.samples.now ≤ length map.old) × (l < self.now.scan.lines) × Below map.old self.now.pricing.now.n
+            × Priced self.now.pricing.now.costs.now self.now.pricing.now.lambda }
         ensures { let p = self.now.pricing.now in
             Halted self.now.samples.now p.costs.now p.colors p.n p.lambda self.now.scan map.old l row limit result map.new }
     {
@@ -265,7 +268,8 @@ impl<'a> Search<'a> {
         requires { let p = self.now.pricing.now in
             (length self.now.samples.now ≤ length map.old) × (length map.old ≤ 4096) × (l < self.now.scan.lines) × (ctx ≤ 3)
             × Below map.old p.n
-            × (best ≡ best_of self.now.samples.now p.costs.now p.colors p.n p.lambda self.now.scan map.old l ctx) }
+            × (best ≡ best_of self.now.samples.now p.costs.now p.colors p.n p.lambda self.now.scan map.old l ctx)
+            × Priced p.costs.now p.lambda }
         ensures value { let p = self.now.pricing.now in
             result ≡ line_of self.now.samples.now p.costs.now p.colors p.n p.lambda self.now.scan map.old l ctx }
         ensures map_after { let p = self.now.pricing.now in
@@ -289,7 +293,8 @@ impl<'a> Search<'a> {
     // The cheapest candidate of line l, under the flag context ctx, into the map.
     fn choose_line(&self, map: &mut [u8], l: usize, ctx: usize) -> Choice
         requires { (length self.now.samples.now ≤ length map.old) × (length map.old ≤ 4096) × (l < self.now.scan.lines) × (ctx ≤ 3)
-            × Below map.old self.now.pricing.now.n }
+            × Below map.old self.now.pricing.now.n
+            × Priced self.now.pricing.now.costs.now self.now.pricing.now.lambda }
         ensures value { let p = self.now.pricing.now in
             result ≡ line_of self.now.samples.now p.costs.now p.colors p.n p.lambda self.now.scan map.old l ctx }
         ensures map_after { let p = self.now.pricing.now in
@@ -302,7 +307,7 @@ impl<'a> Search<'a> {
     // The map and its flags, line by line: its cost, or None where the bound is reached.
     pub fn build_map(&self, head: f32, bound: f32, map: &mut [u8], flags: &mut [u8]) -> Option<Cost>
         requires { (length self.now.samples.now ≤ length map.old) × (length map.old ≤ 4096) × (self.now.scan.lines ≤ length flags.old)
-            × Below map.old self.now.pricing.now.n }
+            × Below map.old self.now.pricing.now.n × Priced self.now.pricing.now.costs.now self.now.pricing.now.lambda }
         ensures { let p = self.now.pricing.now in
             Built (map_of self.now.samples.now p.costs.now p.colors p.n p.lambda self.now.scan head bound map.old flags.old)
             result map.new flags.new }

@@ -12,10 +12,10 @@ returns-then-alone c =
     let alone = sym c.alone.ensures ∙ c.if-alone.true in
     c.sole_cell.ensures
     ∙ rw (dists, c.rates-rates.ensures)
-    (∥∥₁_elim p.priced (cell_set _ _) (λ priced. ∥∥₁_elim p.sure (cell_set _ _) (λ sure.
+    (∥∥₁_elim p.sure (cell_set _ _) (λ sure.
     sole_cell a.x p.colors p.costs.now p.n a.ctx p.lambda p.cap p.few.0 p.few.1 c.requires.1
-    priced sure.capped c.guess-b.result a.row
-    c.if-b-self.true c.requires.0 p.skips sure.skipped (rw dists at alone))))
+    c.requires.2 sure.capped c.guess-b.result a.row
+    c.if-b-self.true c.requires.0 p.skips sure.skipped (rw dists at alone)))
 
 pub returns : goal.returns
 returns c = c.choose.ensures ∙ rw c.rates-rates.ensures refl

@@ -26,7 +26,7 @@ one_cell-v-requires c =
     (sym l.invariant.0)
     (cells_below s.samples.now p.costs.now p.colors p.n p.lambda s.scan (omega (arith, p.few)) p.few.1
     a.map.now a.l a.row l.a c.requires.2) in
-    (omega (arith, c.requires.0, l.invariant.2), c.requires.1, c.loop-a-test.true, below)
+    (omega (arith, c.requires.0, l.invariant.2), c.requires.1, c.loop-a-test.true, below, c.requires.3)
 
 pub returns-then-total-limit : goal.returns-then-total-limit
 returns-then-total-limit c =

@@ -1,9 +1,5 @@
 use mathlib.Core.Bool.{true, false}
 use Prim.Native.Nat.{ℕ, ◌≤◌}
-use base.Stored.{Coded-set, coded_ℕ, coded_list}
-use mathlib.Core.HLevel.{×_prop}
-use mathlib.Core.Logic.{∥∥₁_elim}
-use Rattle.map_search.proofs.Sets.{choice_set}
 use mathlib.Core.List.{List}
 use mathlib.Core.Path.{◌≡◌, sym, ap, subst, ◌∙◌}
 use native.Mathlib.Omega.{arith}
@@ -40,10 +36,9 @@ returns-then-total-limit c =
     own.ensures in
     let less : lt (total_of own.result p.lambda) c.total-limit.result ≡ true =
     rw c.total.ensures at c.if-total-limit.true in
-    let w = ∥∥₁_elim p.priced (×_prop (choice_set _ _) (Coded-set (coded_list coded_ℕ) _ _))
-    (λ priced. own_wins s.samples.now p.costs.now p.colors p.n p.lambda s.scan priced p.few.0
+    let w = own_wins s.samples.now p.costs.now p.colors p.n p.lambda s.scan c.requires.6 p.few.0
     a.map.now a.l a.ctx own.result a.best own.new.map c.total-limit.result
-    c.requires.5 c.total-limit.ensures halted less) in
+    c.requires.5 c.total-limit.ensures halted less in
     record { value = w.0; map_after = w.1 }
 
 pub put_best-requires : goal.put_best-requires
@@ -72,10 +67,9 @@ returns c =
     let not-less : lt (total_of own.result p.lambda) c.total-limit.result ≡ false =
     rw c.total.ensures at c.if-total-limit.false in
     record {
-      value = ∥∥₁_elim p.priced (choice_set _ _)
-          (λ priced. own_loses s.samples.now p.costs.now p.colors p.n p.lambda s.scan priced p.few.0
+      value = own_loses s.samples.now p.costs.now p.colors p.n p.lambda s.scan c.requires.6 p.few.0
           a.map.now a.l a.ctx own.result a.best own.new.map c.total-limit.result
-          c.requires.5 c.total-limit.ensures halted not-less);
+          c.requires.5 c.total-limit.ensures halted not-less;
       map_after = c.put_best.ensures
           ∙ rw halted.put
           (put_plain s.samples.now p.costs.now p.colors p.n p.lambda s.scan a.map.now a.l a.ctx

@@ -38,7 +38,7 @@ quick_cell-requires c =
     let a = c.args in
     let p = a.self.now.pricing.now in
     let key = told a.map.now a.self.now.scan a.l a.a p.n c.key_cell-m.result c.key_cell-m.ensures c.requires.3 p.few in
-    (key.0.fits, key.1)
+    (key.0.fits, key.1, c.requires.4)
 
 pub returns : goal.returns
 unfolding cell_at

@@ -1,5 +1,5 @@
 use Rattle.cells.specs.Cell.{rates_of}
-use Rattle.cells.proofs.Pricing.rates.Goals as goal
+use Rattle.cells.proofs.rates.Goals as goal
 
 pub returns-then-first : goal.returns-then-first
 unfolding rates_of
