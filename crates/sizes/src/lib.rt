@@ -8,7 +8,7 @@ ghost use Rattle.sizes.specs.Sizes.{head_of, least_row, fewest_lines, lb_of, siz
 ghost use Rattle.sizes.specs.Order.{those, next_in, all_sizes, sizes_to};
 ghost use Rattle.sizes.specs.Known.{Known};
 
-use groups::{Histogram, Tables};
+use groups::{Groups, Histogram, Tables};
 
 // What is the same for all sizes of a block.
 #[derive(Clone, Copy)]
@@ -93,14 +93,13 @@ impl<'a> Sizes<'a> {
         requires { (2 ≤ k) × (k ≤ 8) × (k ≤ self.now.histogram.now.n) }
         ensures { result ≡ size_of self.now.costs.now self.now.block self.now.histogram.now k }
     {
-        let g = groups::groups_of(self.histogram, self.tables, k);
-        let colors = g.colors;
+        let Groups { colors, error } = groups::groups_of(self.histogram, self.tables, k);
         let head = self.head_of(&colors[..k]);
         Size {
             n: k,
             colors,
             head,
-            lb: self.lb_of(samples::narrow(g.error), head),
+            lb: self.lb_of(samples::narrow(error), head),
         }
     }
 
