@@ -28,16 +28,6 @@ module _ (pw ps pq : List Float) where
   best_same p q k j h = first_same p q k j (j - k) (λ i l. h (k + i) (omega arith))
 
   -- ---- one row
-  pub none : (k : ℕ) (cost : List Float) (cut : List ℕ) → Filled pw ps pq k 0 cost cost cut cut
-  none k cost cut = record {
-    len = refl;
-    len_cuts = refl;
-    costs = (λ i h. absurd (omega arith));
-    cuts = (λ i h. absurd (omega arith));
-    kept = (λ m h. refl);
-    kept_cuts = (λ m h. refl);
-  }
-
   module _ (k j : ℕ) (cost₀ cost : List Float) (cut₀ cut : List ℕ) (b : Best) (f : Filled pw ps pq k j cost₀ cost cut₀ cut)
       (is : b ≡ best_of pw ps pq (row_at cost (k * 33)) k j)
       (in-cost : k * 33 + 33 + j < length cost) (in_cut : k * 33 + 33 + j < length cut)

@@ -14,19 +14,12 @@ use Rattle.lists.specs.Counted.{elem}
 use Rattle.lists.proofs.Choice.{and_false}
 use Rattle.groups.proofs.Each.{Each}
 use Rattle.sizes.specs.Order.{those, next_in, all_sizes, in_order}
-use Rattle.sizes.proofs.Those.{those_pass, each_those, those_same, those_both, without, without_fewer}
+use Rattle.sizes.proofs.Those.{each_those, those_same, those_both, without, without_fewer}
 use Rattle.sizes.proofs.Order.{first_each, each_elem, no_first, first_then}
-use Rattle.sizes.proofs.Levels.{InSizes, all_sizes_holds}
 
 -- those that a mask leaves open
 abbrev pub opened : List Bool → List ℕ
 opened mask = those (λ (k : ℕ). get_or mask k false) all_sizes
-
-abbrev pub IsOpen : List Bool → ℕ → Type 0
-IsOpen mask k = (get_or mask k false ≡ true) × InSizes k
-
-pub opened_each : (mask : List Bool) → Each (IsOpen mask) (opened mask)
-opened_each mask = those_pass (λ (k : ℕ). get_or mask k false) InSizes all_sizes all_sizes_holds
 
 -- a mask after a size is closed: that size no more, all others as before
 closed_at : (mask : List Bool) (k j : ℕ) → get_or (set mask k false) j false ≡ get_or mask j false && not (eqb j k)
