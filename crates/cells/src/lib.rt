@@ -2,6 +2,7 @@
 #![tactic(auto)]
 
 ghost use Rattle.std.specs.Prelude.{◌≡◌, ℕ, ◌+◌, ◌*◌, ◌≤◌, ◌<◌, false, cond, length, get_or, pos};
+ghost use Rattle.std.specs.List.{list_all};
 ghost use Rattle.std.specs.Float.{nan, binary32};
 ghost use Rattle.std.specs.Float.Ieee.{lt, le, of_int};
 ghost use Rattle.counts.specs.Counts.{uniform_bits};
@@ -158,7 +159,8 @@ fn pick_by(
     lambda: f32,
 ) -> Pick
     requires { Fits row n × (0 < n) × (n ≤ 8) }
-    ensures { result ≡ chosen dists.now rates.now lambda (row_order row n) }
+    ensures value { result ≡ chosen dists.now rates.now lambda (row_order row n) }
+    ensures inside { (result.index < n) × (result.rank < 8) }
 {
     let mut best = candidate(dists, rates, orders, row, 0, lambda);
     for q in 1..n {
@@ -175,16 +177,10 @@ fn highest(costs: &[f32]) -> f32 {
         .fold(0.0, |most, cost| if most < *cost { *cost } else { most })
 }
 
-fn none_above(costs: &[f32], at: usize, most: f32) -> bool
-    requires { at + 40 ≤ length costs.now }
-    ensures { result ≡ all_below (λ (k : ℕ). le (get_or costs.now (at + k) nan) most) 40 }
+fn none_above(costs: &[f32], most: f32) -> bool
+    ensures { result ≡ list_all (λ cost. le cost most) costs.now }
 {
-    for k in 0..40usize {
-        if !(costs[at + k] <= most) {
-            return false;
-        }
-    }
-    true
+    costs.iter().all(|cost| *cost <= most)
 }
 
 // What no cost of a cell among n colours exceeds; or nan.
@@ -193,9 +189,10 @@ pub fn cap_of(costs: &[f32], n: usize) -> f32
     ensures { Capped costs.now n result }
 {
     let at = 21 + (n - 2) * 40;
-    let most = highest(&costs[at..at + 40]);
+    let row = &costs[at..at + 40];
+    let most = highest(row);
     if 0.0 <= most {
-        if none_above(costs, at, most) {
+        if none_above(row, most) {
             return most;
         }
     }
@@ -244,8 +241,8 @@ pub fn skips_of(n: usize) -> [bool; 64]
     ensures { Skips n result }
 {
     let mut skips = [false; 64];
-    for j in 0..64usize {
-        skips[j] = (n <= j % 8) | (j % 8 == j / 8);
+    for (j, skip) in skips.iter_mut().enumerate() {
+        *skip = (n <= j % 8) | (j % 8 == j / 8);
     }
     skips
 }

@@ -1,5 +1,4 @@
 use native.Mathlib.Omega.{arith}
-use mathlib.Core.Path.{refl}
 use Prim.Native.Nat.{ℕ, ◌<◌}
 use lib.ListN.{get_or}
 use Rattle.rows.specs.Rows.{around_row, order_row}
@@ -14,6 +13,3 @@ bounds-dists-index c =
     let low : (k : ℕ) → k < 512 → get_or (order_row k) a.q 0 < 8 =
     λ k h. order_below (around_row k) 8 (row_ok_holds k 8 (eight_fits k h)) a.q c.requires.1 in
     omega (arith, c.from-index.ensures, c.index_at-found.ensures, low a.row c.requires.0, low 0 (omega arith))
-
-pub returns : goal.returns
-returns c = rw (c.from-index.ensures, c.index_at-found.ensures) refl

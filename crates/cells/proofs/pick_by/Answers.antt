@@ -2,10 +2,11 @@ use Prim.Native.Nat.{◌<◌}
 use mathlib.Core.Path.{◌≡◌, refl, sym, ◌∙◌}
 use native.Mathlib.Omega.{arith}
 use lib.ListN.{get_or}
-use Rattle.rows.specs.Rows.{row_order}
-use Rattle.rows.proofs.Laws.{row_length, order_row_is}
-use Rattle.cells.specs.Cell.{pick_at}
-use Rattle.cells.proofs.Ranked.{picked_first, picked_next, picked_last}
+use Rattle.rows.specs.Rows.{around_row, row_order}
+use Rattle.rows.proofs.Laws.{row_ok_holds, row_length, order_row_is}
+use Rattle.cells.specs.Cell.{pick_at, chosen}
+use Rattle.cells.proofs.Order.{order_under, order_few}
+use Rattle.cells.proofs.Ranked.{chosen_in, picked_first, picked_next, picked_last}
 use Rattle.cells.proofs.pick_by.Goals as goal
 
 pub loop-q-init : goal.loop-q-init
@@ -15,9 +16,6 @@ loop-q-init c =
     let first : c.candidate-best.result ≡ pick_at a.dists.now a.rates.now a.lambda 0 (get_or order 0 0) =
     c.candidate-best.ensures ∙ rw (order_row_is a.row a.n c.requires.0 c.requires.2 0 c.requires.1) refl in
     rw first (picked_first a.dists.now a.rates.now a.lambda order (omega (arith, row_length a.row a.n c.requires.0 c.requires.2, c.requires.1)))
-
-pub candidate-next-requires : goal.candidate-next-requires
-candidate-next-requires c = (c.requires.0.0, omega (arith, c.requires.2))
 
 pub loop-q-preserved : goal.loop-q-preserved
 loop-q-preserved c =
@@ -35,5 +33,14 @@ pub returns : goal.returns
 returns c =
     let a = c.args in
     let l = c.loop-q in
-    sym (picked_last a.dists.now a.rates.now a.lambda (row_order a.row a.n) l.q l.best
-    (omega (arith, row_length a.row a.n c.requires.0 c.requires.2))) ∙ l.invariant
+    let order = row_order a.row a.n in
+    let ok = row_ok_holds a.row a.n c.requires.0 in
+    let value : l.best ≡ chosen a.dists.now a.rates.now a.lambda order =
+    sym (picked_last a.dists.now a.rates.now a.lambda order l.q l.best
+    (omega (arith, row_length a.row a.n c.requires.0 c.requires.2))) ∙ l.invariant in
+    record {
+      value = value;
+      inside = rw value
+          (chosen_in a.dists.now a.rates.now a.lambda a.n order c.requires.1 (order_under (around_row a.row) a.n ok)
+          (order_few (around_row a.row) a.n ok c.requires.2));
+    }

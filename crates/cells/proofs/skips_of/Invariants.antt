@@ -10,4 +10,4 @@ abbrev pub due : ℕ → ℕ → Bool
 due n j = leb n (j % 8) || eqb (j % 8) (j / 8)
 
 abbrev pub invariant-loop-j : goal.invariant-loop-j
-invariant-loop-j l = ((k : ℕ) → k < l.j → get_or l.skips k false ≡ due l.n k) × (length l.skips ≡ 64)
+invariant-loop-j l = ((k : ℕ) → k < l.j → get_or l.skip-items k false ≡ due l.n k) × (length l.skip-items ≡ 64)

@@ -1,5 +1,4 @@
 use native.Mathlib.Omega.{arith}
-use mathlib.Core.Path.{refl}
 use Rattle.rows.proofs.Laws.{rank_eight}
 use Rattle.cells.proofs.sole_cell.Goals as goal
 
@@ -8,6 +7,3 @@ pub bounds-rates-from : goal.bounds-rates-from
 bounds-rates-from c =
     let zero = rank_eight 0 c.args.b (omega arith) c.requires.1 in
     omega (arith, c.from.ensures, c.rank_at-rank.ensures, rank_eight c.args.row c.args.b c.requires.0 c.requires.1, zero)
-
-pub returns : goal.returns
-returns c = rw (c.from.ensures, c.rank_at-rank.ensures) refl

@@ -1,4 +1,4 @@
-use mathlib.Core.Path.{refl, sym, ◌∙◌}
+use mathlib.Core.Path.{sym, ◌∙◌}
 use mathlib.Core.Logic.{∥∥₁_elim}
 use Rattle.cells.proofs.Quick.{sole_cell}
 use Rattle.cells.proofs.Sets.{cell_set}
@@ -16,6 +16,3 @@ returns-then-alone c =
     sole_cell a.x p.colors p.costs.now p.n a.ctx p.lambda p.cap p.few.0 p.few.1 c.requires.1
     c.requires.2 sure.capped c.guess-b.result a.row
     c.if-b-self.true c.requires.0 p.skips sure.skipped (rw dists at alone)))
-
-pub returns : goal.returns
-returns c = c.choose.ensures ∙ rw c.rates-rates.ensures refl
