@@ -1,5 +1,4 @@
 use native.Mathlib.Omega.{arith}
-use mathlib.Core.Path.{refl}
 use Rattle.rows.proofs.Laws.{rank_eight}
 use Rattle.map_search.proofs.constant.Goals as goal
 
@@ -9,6 +8,3 @@ bounds-rates-from c =
     let a = c.args in
     let zero = rank_eight 0 a.c (omega arith) c.requires.0 in
     omega (arith, c.from.ensures, c.rank_at-rank.ensures, rank_eight a.k a.c c.requires.1 c.requires.0, zero)
-
-pub returns : goal.returns
-returns c = rw (c.from.ensures, c.rank_at-rank.ensures) refl

@@ -1,13 +1,12 @@
 use Rattle.map_search.specs.declared.Choice.{Choice}
 use Rattle.map_search.specs.Parts.{constants_by}
 use Rattle.cells.specs.Cell.{cheapest}
-use native.Mathlib.Nat.{sub-zero}
 use Prim.Native.Nat.{suc, ◌+◌, ◌-◌}
 use native.Mathlib.Omega.{arith}
 use mathlib.Core.Bool.{true, false, cond}
 use mathlib.Core.Logic.{◌⊎◌, inl, inr}
 use lib.Ieee.{Float, lt}
-use mathlib.Core.Path.{◌≡◌, refl, sym, ap, ◌∙◌}
+use mathlib.Core.Path.{◌≡◌, sym, ap, ◌∙◌}
 use Rattle.map_search.proofs.Search.best_const.Invariants.{total}
 use Rattle.map_search.proofs.Search.best_const.Goals as goal
 use Rattle.map_search.proofs.Search.best_const.Goals.{then-total-least, else-total-least}
@@ -20,9 +19,6 @@ by_least lambda least t least' best next best' e f (inl w) =
     (rw (rw (e, f) at w.0) w.1, w.2 ∙ f ∙ ap (total lambda) (sym w.1))
 by_least lambda least t least' best next best' e f (inr w) =
     (rw (rw (e, f) at w.0) w.1, w.2 ∙ e ∙ ap (total lambda) (sym w.1))
-
-pub loop-c-init : goal.loop-c-init
-loop-c-init c = (rw sub-zero refl, c.total-least.ensures)
 
 pub loop-c-preserved : goal.loop-c-preserved
 unfolding cheapest constants_by
