@@ -3,7 +3,7 @@ use mathlib.Core.Path.{◌≡◌, refl, sym, ap, ◌∙◌}
 use mathlib.Core.Bool.{Bool, true, false, cond}
 use mathlib.Core.List.{List}
 use Prim.Native.Nat.{ℕ, ◌≤◌, zero-le}
-use borrow.Author.Tests.{eq-eqb, ne_eqb, eqb-true, eqb-false}
+use borrow.Author.Tests.{ne_eqb, eqb-true, eqb-false}
 use lib.Dec.{eqb}
 use lib.ListN.{length}
 use lib.Ieee.{Float}
@@ -11,7 +11,7 @@ use Rattle.sizes.specs.declared.Block.{Block}
 use Rattle.accept.specs.declared.Palette.{Palette}
 use Rattle.accept.specs.Answer.{refused_by}
 use Rattle.search.specs.declared.Best.{Best}
-use Rattle.search.specs.Search.{histogram_in, found_in, fault_of, levels_fault, search_number, palette_by, Searches}
+use Rattle.search.specs.Search.{found_in, search_number, palette_by, Searches}
 use Rattle.search.specs.Steps.{Written}
 use Rattle.search.proofs.Finds.{finds}
 use Rattle.search.proofs.Passed.{all_passed}
@@ -45,16 +45,6 @@ module _ (samples costs : List Float) (b : Block) (map₀ flags₀ : List ℕ) w
     cells = rw w.answer w.cells;
     signs = rw w.answer w.signs;
   }
-
-  -- the number by its two parts
-  module _ (fault : ℕ) (f : fault ≡ fault_of samples costs b (length map₀) (length flags₀)) where
-    pub number_first : (fault ≡ 0 → ⊥) → number ≡ fault
-    unfolding search_number
-    number_first some = rw (← f, ne_eqb fault 0 some) refl
-
-    pub number_second : (levels : ℕ) → levels ≡ levels_fault (histogram_in samples).n → fault ≡ 0 → number ≡ levels
-    unfolding search_number
-    number_second levels l z = rw (← f, eq-eqb fault 0 z, ← l) refl
 
   -- at most eight colours
   pub few_colors : (map flags : List ℕ) (r : Palette) → Searches samples costs b map₀ map flags₀ flags r → r.n ≤ 8

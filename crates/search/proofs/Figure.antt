@@ -34,8 +34,8 @@ module _ (samples costs : List Float) (b : Block) where
       → Estimated samples costs b (found_in samples costs b) (palette_by (found_in samples costs b).best)
   kept_estimated k = record {
     bound = k.bound;
-    error = k.error;
-    bits = k.bits;
+    error = k.cost.dist;
+    bits = k.cost.rate;
     walk = k.whole;
     figure = (k.headed, k.counted, rw (k.headed, k.counted) refl);
   }

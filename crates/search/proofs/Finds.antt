@@ -17,7 +17,8 @@ use Rattle.groups.specs.declared.Histogram.{Histogram}
 use Rattle.groups.specs.Groups.{centers_of, groups_of}
 use Rattle.groups.proofs.Each.{Each}
 use Rattle.scan.specs.Scan.{scan_of, Sound}
-use Rattle.map_search.specs.declared.MapResult.TheVariants.{Found}
+use Rattle.std.specs.Prelude.{Some}
+use Rattle.cells.specs.declared.Cost.{Cost}
 use Rattle.map_search.proofs.WalkBounds.{always_found, found_in_bounds}
 use Rattle.scan.proofs.Scans.{scan_sound}
 use Rattle.sizes.specs.declared.Block.{Block}
@@ -70,14 +71,14 @@ module _ {samples costs : List Float} {b : Block} {room lineRoom : ℕ} (ready :
     head_low = head_under ready is few k has
 
     -- no total is infinite or NaN: of any size that the block has, in either orientation, under any bound
-    pub total_finite : (t : Bool) (bound error bits : Float) → (built samples costs b h k t bound).result ≡ Found error bits
-        → Under (add binary32 error (mul binary32 b.lambda (add binary32 head bits))) (1025 * 2 ^ 29)
-    total_finite t bound error bits found =
+    pub total_finite : (t : Bool) (bound : Float) (cost : Cost) → (built samples costs b h k t bound).result ≡ Some cost
+        → Under (add binary32 cost.dist (mul binary32 b.lambda (add binary32 head cost.rate))) (1025 * 2 ^ 29)
+    total_finite t bound cost found =
         let scan = scan_of b.width b.height t in
         let bounds = found_in_bounds samples costs colours k b.lambda scan cells (sound t) has.0 has.1 sample_within
         (color_within ready is few k has) (costs_within costs ready.priced) head lambda_under head_low bound
-        (replicate cells 0) (replicate scan.lines 0) error bits (λ i. zeros_below cells k i (omega (arith, has.0))) found in
-        total_under error b.lambda head bits scan.lines (sound t).few bounds.0.0 lambda_under head_low bounds.1.0
+        (replicate cells 0) (replicate scan.lines 0) cost (λ i. zeros_below cells k i (omega (arith, has.0))) found in
+        total_under cost.dist b.lambda head cost.rate scan.lines (sound t).few bounds.0.0 lambda_under head_low bounds.1.0
 
     -- its plain map stands, where none stood
     first_kept : Kept samples costs b h (tried samples costs b (size_of costs b h k) false none)
@@ -87,8 +88,8 @@ module _ {samples costs : List Float} {b : Block} {room lineRoom : ℕ} (ready :
         let found = always_found samples costs colours k b.lambda scan cells (sound false) has.0 has.1 sample_within
         (color_within ready is few k has) (costs_within costs ready.priced) head lambda_under head_low
         (replicate cells 0) (replicate scan.lines 0) (λ i. zeros_below cells k i (omega (arith, has.0))) in
-        let total = total_finite false (inf false) found.error found.bits found.is in
-        judged_first samples costs b h k false (inf false) has (λ t. absurd (false≢true t)) found.error found.bits
+        let total = total_finite false (inf false) found.cost found.is in
+        judged_first samples costs b h k false (inf false) has (λ t. absurd (false≢true t)) found.cost
         (1025 * 2 ^ 29) total found.is _ found.is
 
   -- what stands after all sizes is a found map

@@ -14,8 +14,8 @@ use Rattle.groups.specs.Groups.{centers_of, groups_of}
 use Rattle.groups.proofs.Each.{Each}
 use Rattle.scan.specs.Scan.{scan_of}
 use Rattle.map_search.specs.Lines.{map_of, Ended}
-use Rattle.map_search.specs.declared.MapResult.{MapResult}
-use Rattle.map_search.specs.declared.MapResult.TheVariants.{Found, Beaten}
+use Rattle.std.specs.Prelude.{Option, Some, None}
+use Rattle.cells.specs.declared.Cost.{Cost}
 use Rattle.sizes.specs.declared.Block.{Block}
 use Rattle.counts.specs.Counts.{orient_sent}
 use Rattle.sizes.specs.Sizes.{head_of, size_of}
@@ -38,13 +38,12 @@ pub record Kept (samples costs : List Float) (b : Block) (h : Histogram) (s : St
   pub colors : s.best.colors ≡ (groups_of h s.best.n).colors
   pub orient : s.best.transposed ≡ true → orient_sent b.width b.height ≡ true
   pub bound : Float
-  pub error : Float
-  pub bits : Float
+  pub cost : Cost
   -- head and map bits are those of this size and this map
   pub headed : s.best.head ≡ head_of costs b (centers_of h s.best.n)
-  pub counted : s.best.map_bits ≡ bits
+  pub counted : s.best.map_bits ≡ cost.rate
   pub whole : built samples costs b h s.best.n s.best.transposed bound
-      ≡ record { map = s.map; flags = s.flags; result = Found error bits }
+      ≡ record { map = s.map; flags = s.flags; result = Some cost }
 
 module _ (samples costs : List Float) (b : Block) (h : Histogram) where
   -- ---- one map of a size, plain or transposed
@@ -53,46 +52,45 @@ module _ (samples costs : List Float) (b : Block) (h : Histogram) where
     ended = built samples costs b h k t bound
 
     module _ (has : SizeTo h.n k) (sent : t ≡ true → orient_sent b.width b.height ≡ true) where
-      found_kept : (total error bits : Float) → ended.result ≡ Found error bits → Kept samples costs b h (record {
+      found_kept : (total : Float) (cost : Cost) → ended.result ≡ Some cost → Kept samples costs b h (record {
         best = record {
           total = total;
           n = k;
           colors = (groups_of h k).colors;
           transposed = t;
           head = head_of costs b (centers_of h k);
-          map_bits = bits;
+          map_bits = cost.rate;
         };
         map = ended.map;
         flags = ended.flags;
       })
-      found_kept total error bits e = record {
+      found_kept total cost e = record {
         two = has.0;
         eight = has.1;
         few = has.2;
         colors = refl;
         orient = sent;
         bound = bound;
-        error = error;
-        bits = bits;
+        cost = cost;
         headed = refl;
         counted = refl;
-        whole = ap (λ (r : MapResult). record { map = ended.map; flags = ended.flags; result = r }) e;
+        whole = ap (λ (r : Option Cost). record { map = ended.map; flags = ended.flags; result = r }) e;
       }
 
       -- what stood, or a found map
-      judged_kept : (s : Standing) → Kept samples costs b h s → (r : MapResult) → ended.result ≡ r
+      judged_kept : (s : Standing) → Kept samples costs b h s → (r : Option Cost) → ended.result ≡ r
           → Kept samples costs b h (judged b (size_of costs b h k) t s ended.map ended.flags r)
-      judged_kept s p Beaten e = p
-      judged_kept s p (Found error bits) e =
-          either_way (Kept samples costs b h) (lt _ s.best.total) _ s (found_kept _ error bits e) p
+      judged_kept s p None e = p
+      judged_kept s p (Some cost) e =
+          either_way (Kept samples costs b h) (lt _ s.best.total) _ s (found_kept _ cost e) p
 
       -- nothing stood, and the map's total is finite
-      pub judged_first : (error bits : Float) (A : ℕ)
-          → (let all = add binary32 (head_of costs b (centers_of h k)) bits in
-          Under (add binary32 error (mul binary32 b.lambda all)) A)
-          → ended.result ≡ Found error bits → (r : MapResult) → r ≡ Found error bits
+      pub judged_first : (cost : Cost) (A : ℕ)
+          → (let all = add binary32 (head_of costs b (centers_of h k)) cost.rate in
+          Under (add binary32 cost.dist (mul binary32 b.lambda all)) A)
+          → ended.result ≡ Some cost → (r : Option Cost) → r ≡ Some cost
           → Kept samples costs b h (judged b (size_of costs b h k) t none ended.map ended.flags r)
-      judged_first error bits A u e r i = rw (i, under_lt _ A u) (found_kept _ error bits e)
+      judged_first cost A u e r i = rw (i, under_lt _ A u) (found_kept _ cost e)
 
   -- ---- what stands stays found
   tried_kept : (k : ℕ) → SizeTo h.n k → (t : Bool) → (t ≡ true → orient_sent b.width b.height ≡ true)

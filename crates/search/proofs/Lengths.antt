@@ -7,7 +7,7 @@ use lib.Ieee.{Float}
 use Rattle.lists.proofs.Choice.{either_way}
 use Rattle.map_search.specs.Lines.{Walk, Ended, line_of, next, reached, rest_of}
 use Rattle.scan.specs.declared.Scan.{Scan}
-use Rattle.map_search.specs.declared.MapResult.TheVariants.{Beaten}
+use Rattle.std.specs.Prelude.{None}
 use Rattle.map_search.proofs.PutLine.{length_put}
 
 -- as long as those of the walk
@@ -25,4 +25,4 @@ module _ (samples costs colours : List Float) (n : ℕ) (lambda : Float) (s : Sc
       let signs = length-set t.flags l line.flag in
       let rest = rest_long k (l + 1) u in
       either_way (AsLong t) (reached samples costs colours n lambda s head bound u)
-      (record { map = u.map; flags = u.flags; result = Beaten }) _ (cells, signs) (rest.0 ∙ cells, rest.1 ∙ signs)
+      (record { map = u.map; flags = u.flags; result = None }) _ (cells, signs) (rest.0 ∙ cells, rest.1 ∙ signs)

@@ -1,4 +1,3 @@
-pub mod Eight
 pub mod Lengths
 pub mod Mild
 pub mod Narrow

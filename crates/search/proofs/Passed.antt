@@ -5,7 +5,7 @@ use mathlib.Core.List.{List}
 use Prim.Native.Nat.{ℕ, ◌*◌, max, ◌≤◌}
 use native.Mathlib.Omega.{arith}
 use native.Mathlib.Nat.{mul-le-mul}
-use borrow.Author.Tests.{eqb-true, eqb-false, ltb-false, leb-true, le-leb}
+use borrow.Author.Tests.{eq-eqb, ne_eqb, eqb-true, eqb-false, ltb-false, leb-true, le-leb}
 use lib.Dec.{eqb, ltb, leb}
 use lib.ListN.{length}
 use lib.Ieee.{Float}
@@ -118,11 +118,27 @@ levels_of_zero levels e =
     let few = passed (ltb 32 levels) 9 _ two.1 in
     (ltb-false levels 2 two.0, ltb-false 32 levels few.0)
 
+-- the number by its two parts
+module _ (samples costs : List Float) (b : Block) (cells lines fault : ℕ) (f : fault ≡ fault_of samples costs b cells lines) where
+  pub number_first : (fault ≡ 0 → ⊥) → search_number samples costs b cells lines ≡ fault
+  unfolding search_number
+  number_first some = rw (← f, ne_eqb fault 0 some) refl
+
+  pub number_second : (levels : ℕ) → levels ≡ levels_fault (histogram_in samples).n → fault ≡ 0
+      → search_number samples costs b cells lines ≡ levels
+  unfolding search_number
+  number_second levels l z = rw (← f, eq-eqb fault 0 z, ← l) refl
+
 -- all of them
-pub all_passed : (samples costs : List Float) (b : Block) (cells lines : ℕ) → search_number samples costs b cells lines ≡ 0
-    → let n = (histogram_in samples).n in Ready samples costs b cells lines × (2 ≤ n) × (n ≤ 32)
+pub parts_of_zero : (samples costs : List Float) (b : Block) (cells lines : ℕ) → search_number samples costs b cells lines ≡ 0
+    → let n = (histogram_in samples).n in Passed samples costs b cells lines × (2 ≤ n) × (n ≤ 32)
 unfolding search_number
-all_passed samples costs b cells lines e =
+parts_of_zero samples costs b cells lines e =
     let zeros = no_fault (fault_of samples costs b cells lines) (levels_fault (histogram_in samples).n) e in
     let n = levels_of_zero (histogram_in samples).n zeros.1 in
-    (ready_of (record { zero = zeros.0 }), n.0, n.1)
+    (record { zero = zeros.0 }, n.0, n.1)
+
+pub all_passed : (samples costs : List Float) (b : Block) (cells lines : ℕ) → search_number samples costs b cells lines ≡ 0
+    → let n = (histogram_in samples).n in Ready samples costs b cells lines × (2 ≤ n) × (n ≤ 32)
+all_passed samples costs b cells lines e =
+    let p = parts_of_zero samples costs b cells lines e in (ready_of p.0, p.1, p.2)

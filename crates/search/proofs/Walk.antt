@@ -11,10 +11,10 @@ use Rattle.sizes.specs.declared.Block.{Block}
 use Rattle.sizes.specs.declared.Size.{Size}
 use Rattle.sizes.specs.Sizes.{size_of}
 use Rattle.sizes.specs.Order.{sizes_to, ordered, in_order}
-use Rattle.sizes.proofs.Order.{first_each}
 use Rattle.sizes.proofs.Levels.{SizeTo, sizes_each, order_same}
-use Rattle.sizes.proofs.Open.{opened, closed_each, next, next_none, next_then, next_fewer}
-use Rattle.search.specs.declared.Best.{Best}
+use Rattle.sizes.proofs.Open.{opened, closed_each, next, next_none, next_each, next_then, next_fewer}
+use Rattle.search.specs.declared.BestMap.{BestMap}
+use Rattle.std.specs.Prelude.{None, Some}
 use Rattle.search.specs.Search.{Standing, none, tried_both, visited, searched}
 use Rattle.search.specs.Steps.{Stands}
 
@@ -22,72 +22,65 @@ use Rattle.search.specs.Steps.{Stands}
 abbrev pub Bounds : List Float → Block → Histogram → List Float → Type 0
 Bounds costs b h lbs = (k : ℕ) → 2 ≤ k → k ≤ 8 → k ≤ h.n → get_or lbs k nan ≡ (size_of costs b h k).lb
 
--- the sizes that are left, next the size k; what stands; and where they lead
-pub record Walking (samples costs : List Float) (b : Block) (h : Histogram) (lbs : List Float) (left : List Bool) (best : Best)
-    (k : ℕ) (map flags : List ℕ) : Type 0 where
-  pub is : k ≡ next (λ j. get_or lbs j nan) left
+-- the sizes that are left; what stands; and where they lead
+pub record Walking (samples costs : List Float) (b : Block) (h : Histogram) (lbs : List Float) (left : List Bool) (kept : BestMap)
+    : Type 0 where
   pub sizes : Each (SizeTo h.n) (opened left)
   pub standing : Standing
-  pub stands : Stands standing best map flags
+  pub stands : Stands standing kept
   pub whole : visited samples costs b h (in_order (λ j. get_or lbs j nan) (opened left)) standing ≡ searched samples costs b h
 
 module _ (samples costs : List Float) (b : Block) (h : Histogram) (lbs : List Float) (bounds : Bounds costs b h lbs) where
   abbrev lb : ℕ → Float
   lb j = get_or lbs j nan
 
-  pub walking_starts : (left : List Bool) (best : Best) (k : ℕ) (map flags : List ℕ) → opened left ≡ sizes_to h.n
-      → best ≡ none.best → k ≡ next lb left → Walking samples costs b h lbs left best k map flags
+  pub walking_starts : (left : List Bool) (kept : BestMap) → opened left ≡ sizes_to h.n → Stands none kept
+      → Walking samples costs b h lbs left kept
   unfolding searched
-  walking_starts left best k map flags all first n = record {
-    is = n;
+  walking_starts left kept all S = record {
     sizes = rw all (sizes_each h.n);
     standing = none;
-    stands = record { is = first; cells = refl; signs = refl };
+    stands = S;
     whole = ap (λ ks. visited samples costs b h ks none)
         (ap (λ ks. in_order lb ks) all ∙ order_same h.n lb (λ j. (size_of costs b h j).lb) bounds);
   }
 
-  module _ {left : List Bool} {best : Best} {k : ℕ} {map flags : List ℕ}
-      (w : Walking samples costs b h lbs left best k map flags) where
+  module _ {left : List Bool} {kept : BestMap} (w : Walking samples costs b h lbs left kept) where
     -- no size is left
-    pub walking_ends : k ≡ 0 → Stands (searched samples costs b h) best map flags
+    pub walking_ends : None ≡ next lb left → Stands (searched samples costs b h) kept
     unfolding visited ordered
-    walking_ends z = rw (← w.whole, next_none lb left (sym w.is ∙ z)) w.stands
+    walking_ends n = rw (← w.whole, next_none lb left n) w.stands
 
-    module _ (some : k ≡ 0 → ⊥) where
-      some_next : next lb left ≡ 0 → ⊥
-      some_next e = some (w.is ∙ e)
-
+    -- next is the size k
+    module _ (k : ℕ) (is : Some k ≡ next lb left) where
       pub size_known : SizeTo h.n k
-      size_known = rw w.is (first_each (SizeTo h.n) lb (opened left) w.sizes some_next)
+      size_known = next_each lb left k is (SizeTo h.n) w.sizes
 
       -- the size k first, then the others
       in_turn : visited samples costs b h (k ∷ in_order lb (opened (set left k false))) w.standing
           ≡ searched samples costs b h
       in_turn =
           ap (λ ks. visited samples costs b h ks w.standing)
-          (ap (λ j. j ∷ in_order lb (opened (set left j false))) w.is ∙ sym (next_then lb left some_next))
+          (sym (next_then lb left k is))
           ∙ w.whole
 
       -- the same test as the code's
-      same_test : le w.standing.best.total (size_of costs b h k).lb ≡ le best.total (get_or lbs k nan)
+      same_test : le w.standing.best.total (size_of costs b h k).lb ≡ le kept.best.total (get_or lbs k nan)
       same_test =
           let size = size_known in
           rw (bounds k size.0 size.1 size.2, w.stands.is) refl
 
       -- an `lb` not below the best ends the walk
-      pub walking_stops : le best.total (get_or lbs k nan) ≡ true → Stands (searched samples costs b h) best map flags
+      pub walking_stops : le kept.best.total (get_or lbs k nan) ≡ true → Stands (searched samples costs b h) kept
       unfolding visited
       walking_stops t = rw (← in_turn, same_test, t) w.stands
 
       -- else the size is tried, and closed
-      pub walking_goes_on : le best.total (get_or lbs k nan) ≡ false → (z : Size) → z ≡ size_of costs b h k
-          → (best' : Best) (k' : ℕ) (map' flags' : List ℕ)
-          → Stands (tried_both samples costs b z w.standing) best' map' flags'
-          → k' ≡ next lb (set left k false) → Walking samples costs b h lbs (set left k false) best' k' map' flags'
+      pub walking_goes_on : le kept.best.total (get_or lbs k nan) ≡ false → (z : Size) → z ≡ size_of costs b h k
+          → (kept' : BestMap) → Stands (tried_both samples costs b z w.standing) kept'
+          → Walking samples costs b h lbs (set left k false) kept'
       unfolding visited
-      walking_goes_on t z e best' k' map' flags' S n = record {
-        is = n;
+      walking_goes_on t z e kept' S = record {
         sizes = closed_each (SizeTo h.n) left k w.sizes;
         standing = tried_both samples costs b (size_of costs b h k) w.standing;
         stands = rw e at S;
@@ -95,4 +88,4 @@ module _ (samples costs : List Float) (b : Block) (h : Histogram) (lbs : List Fl
       }
 
       pub fewer_left : length (opened (set left k false)) < length (opened left)
-      fewer_left = rw w.is (next_fewer lb left some_next)
+      fewer_left = next_fewer lb left k is

@@ -1,11 +1,10 @@
 -- Document 01, 'Sizes', its last sentence: the bit estimate of what search found is (head + map bits) × 3. Since document 02's L8
 -- an answer holds the two apart.
-use Rattle.std.specs.Prelude.{◌≡◌, List, ℕ, Float}
+use Rattle.std.specs.Prelude.{◌≡◌, List, ℕ, Float, Some}
 use Rattle.std.specs.Float.{binary32}
 use Rattle.std.specs.Float.Ieee.{add, mul, of_bits}
 use Rattle.ieee.specs.Numbers.{nat}
 use Rattle.groups.specs.Groups.{centers_of}
-use Rattle.map_search.specs.declared.MapResult.TheVariants.{Found}
 use Rattle.sizes.specs.declared.Block.{Block}
 use Rattle.sizes.specs.Sizes.{head_of, size_of}
 use Rattle.accept.specs.declared.Palette.{Palette}
@@ -21,7 +20,7 @@ pub record Estimated (samples costs : List Float) (b : Block) (s : Standing) (r 
   pub error : Float
   pub bits : Float
   pub walk : map_in samples costs b (size_of costs b (histogram_in samples) r.n) r.transposed bound
-      ≡ record { map = s.map; flags = s.flags; result = Found error bits }
+      ≡ record { map = s.map; flags = s.flags; result = Some (record { dist = error; rate = bits }) }
   pub figure : let head = head_of costs b (centers_of (histogram_in samples) r.n) in
       (r.head ≡ head) × (r.map_bits ≡ bits) × (estimate_in r ≡ mul binary32 (add binary32 head bits) (nat binary32 3))
 

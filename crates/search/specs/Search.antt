@@ -1,5 +1,5 @@
 -- Document 01, 'Sizes' and 'Numbers returned': the search of a block.
-use Rattle.std.specs.Prelude.{◌≡◌, Bool, true, false, cond, not, ◌||◌, List, [], ◌∷◌, map, ℕ, ◌*◌, eqb, ltb, leb, length, replicate, Float}
+use Rattle.std.specs.Prelude.{◌≡◌, Bool, true, false, cond, not, ◌||◌, List, [], ◌∷◌, map, ℕ, ◌*◌, eqb, ltb, leb, length, replicate, Float, Option, Some, None}
 use Rattle.std.specs.Float.{inf, binary32}
 use Rattle.std.specs.Float.Ieee.{add, mul, le, lt, of_bits}
 use Rattle.lists.specs.Written.{front}
@@ -8,10 +8,9 @@ use Rattle.accept.specs.Accepted.{sides_ok, depth_ok}
 use Rattle.samples.specs.Samples.{lambda_ok, costs_ok, samples_ok, level_of}
 use Rattle.groups.specs.declared.Histogram.{Histogram}
 use Rattle.groups.specs.Histogram.{histogram_of}
+use Rattle.cells.specs.declared.Cost.{Cost}
 use Rattle.scan.specs.Scan.{scan_of}
 use Rattle.map_search.specs.Lines.{Ended, map_of}
-use Rattle.map_search.specs.declared.MapResult.{MapResult}
-use Rattle.map_search.specs.declared.MapResult.TheVariants.{Found, Beaten}
 use Rattle.sizes.specs.declared.Block.{Block}
 use Rattle.sizes.specs.declared.Size.{Size}
 use Rattle.counts.specs.Counts.{orient_sent}
@@ -33,14 +32,18 @@ none =
     let best : Best = record { total = inf false; n = 0; colors = replicate 8 0; transposed = false; head = zero; map_bits = zero } in
     record { best = best; map = []; flags = [] }
 
+-- a map stands only if its total is strictly lower
+abbrev pub lower : Standing → Standing → Standing
+lower s next = cond (lt next.best.total s.best.total) next s
+
 -- what stands after a map of size z: a found one only if its total is strictly lower
-abbrev pub judged : Block → Size → Bool → Standing → List ℕ → List ℕ → MapResult → Standing
-judged b z t s map flags Beaten = s
-judged b z t s map flags (Found error bits) =
-    let all = add binary32 z.head bits in
-    let total = add binary32 error (mul binary32 b.lambda all) in
-    let best : Best = record { total = total; n = z.n; colors = z.colors; transposed = t; head = z.head; map_bits = bits } in
-    cond (lt total s.best.total) (record { best = best; map = map; flags = flags }) s
+abbrev pub judged : Block → Size → Bool → Standing → List ℕ → List ℕ → Option Cost → Standing
+judged b z t s map flags None = s
+judged b z t s map flags (Some cost) =
+    let all = add binary32 z.head cost.rate in
+    let total = add binary32 cost.dist (mul binary32 b.lambda all) in
+    let best : Best = record { total = total; n = z.n; colors = z.colors; transposed = t; head = z.head; map_bits = cost.rate } in
+    lower s (record { best = best; map = map; flags = flags })
 
 -- the levels of a block
 abbrev pub histogram_in : List Float → Histogram

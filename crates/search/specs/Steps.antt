@@ -1,15 +1,15 @@
 -- What the functions within the crate ask and answer: the steps of `search`.
-use Rattle.std.specs.Prelude.{◌≡◌, Bool, cond, not, List, map, ℕ, length, take, Float}
-use Rattle.std.specs.Float.{binary32}
+use Rattle.std.specs.Prelude.{◌≡◌, Bool, cond, not, List, ℕ, ◌*◌, length, take, replicate, Float, Result, IfOk}
 use Rattle.lists.specs.Written.{front}
-use Rattle.ieee.specs.Numbers.{nat}
-use Rattle.cells.specs.Sure.{Sure}
+use Rattle.refusals.specs.Numbers.{number}
+use Rattle.refusals.specs.declared.Refusal.{Refusal}
+use Rattle.context.specs.Map.{lines_of}
+use Rattle.groups.specs.declared.Histogram.{Histogram}
 use Rattle.samples.specs.Samples.{lambda_ok, costs_ok}
 use Rattle.sizes.specs.declared.Block.{Block}
-use Rattle.sizes.specs.declared.Size.{Size}
-use Rattle.search.specs.declared.Best.{Best}
+use Rattle.search.specs.declared.BestMap.{BestMap}
 use Rattle.accept.specs.declared.Palette.{Palette}
-use Rattle.search.specs.Search.{Standing, fault_of, palette_by}
+use Rattle.search.specs.Search.{Standing, histogram_in, fault_of, search_number, palette_by}
 
 -- the first of 4 and 5 that applies, or 0
 abbrev pub price_fault : Float → List Float → ℕ
@@ -19,16 +19,26 @@ price_fault lambda costs = cond (not (lambda_ok lambda)) 4 (cond (not (costs_ok 
 pub record Passed (samples costs : List Float) (b : Block) (cells lines : ℕ) : Type 0 where
   pub zero : fault_of samples costs b cells lines ≡ 0
 
--- what both maps of a size are made with
-pub record Sized (costs : List Float) (z : Size) (colours : List Float) (cap : Float) (skips : List Bool) : Type 0 where
-  pub values : colours ≡ map (nat binary32) z.colors
-  pub sure : Sure costs z.n cap skips
+-- the first of 1 to 10 that applies, or the levels
+pub record Levels (samples costs : List Float) (b : Block) (cells lines : ℕ) (r : Result Histogram Refusal) : Type 0 where
+  pub is : number r ≡ search_number samples costs b cells lines
+  pub levels : IfOk r (λ h. h ≡ histogram_in samples)
 
--- the code's best, and its cells and flags from the front of map and flags
-pub record Stands (s : Standing) (best : Best) (map flags : List ℕ) : Type 0 where
-  pub is : best ≡ s.best
-  pub cells : take (length s.map) map ≡ s.map
-  pub signs : take (length s.flags) flags ≡ s.flags
+-- cells and lines are zeros, as many as a map has
+pub record Zeros (b : Block) (t : Bool) (cells lines : List ℕ) : Type 0 where
+  pub cells_zero : cells ≡ replicate (b.width * b.height) 0
+  pub lines_zero : lines ≡ replicate (lines_of t b.width b.height) 0
+
+-- the code's best map stands: its cells and flags are from the front
+pub record Stands (s : Standing) (kept : BestMap) : Type 0 where
+  pub is : kept.best ≡ s.best
+  pub cells : take (length s.map) kept.cells ≡ s.map
+  pub signs : take (length s.flags) kept.lines ≡ s.flags
+
+-- what stands has as many cells and flags as the block
+pub record Whole (b : Block) (s : Standing) : Type 0 where
+  pub cells : length s.map ≡ b.width * b.height
+  pub signs : length s.flags ≡ lines_of s.best.transposed b.width b.height
 
 -- a palette with its cells and flags from the front
 pub record Written (s : Standing) (map₀ map flags₀ flags : List ℕ) (r : Palette) : Type 0 where

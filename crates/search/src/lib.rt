@@ -2,23 +2,26 @@
 // have a `requires`.
 #![tactic(auto)]
 
-ghost use Rattle.std.specs.Prelude.{◌≡◌, List, map, ◌*◌, ◌≤◌, length, replicate, Float};
+ghost use Rattle.std.specs.Prelude.{◌≡◌, map, ◌*◌, ◌≤◌, length};
 ghost use Rattle.std.specs.Float.{binary32};
+ghost use Rattle.refusals.specs.Numbers.{number};
 ghost use Rattle.ieee.specs.Numbers.{nat};
-ghost use Rattle.context.specs.Map.{lines_of};
-ghost use Rattle.rows.specs.Rows.{Tables};
 ghost use Rattle.map_search.specs.Parts.{Built};
-ghost use Rattle.sizes.specs.Known.{Known};
-ghost use Rattle.search.specs.Search.{Standing, judged, map_in, tried, tried_both, searched, histogram_in, found_in, estimate_of, Searches};
+ghost use Rattle.search.specs.Search.{Standing, none, lower, map_in, tried, tried_both, searched, histogram_in, found_in, estimate_of, Searches};
 ghost use Rattle.search.specs.Search.{large_ok, fault_of, levels_fault};
-ghost use Rattle.search.specs.Steps.{price_fault, Passed, Sized, Stands, Written};
+ghost use Rattle.search.specs.Steps.{price_fault, Levels, Passed, Zeros, Whole, Stands, Written};
 
 use accept::Palette;
-use map_search::MapResult;
-use sizes::{Block, Size};
+use cells::{Cost, Pricing};
+use groups::Histogram;
+use map_search::Search;
+use refusals::Refusal;
+use rows::Tables;
+use scan::Scan;
+use sizes::{Block, Size, Sizes};
 
 // The best map so far, but for its cells and flags.
-#[derive(Drop)]
+#[derive(Clone, Copy)]
 pub struct Best {
     pub total: f32,
     pub n: usize,
@@ -39,425 +42,315 @@ pub fn estimate(head: f32, map_bits: f32) -> f32
 fn large_ok(width: usize, height: usize) -> bool
     ensures { result ≡ large_ok width height }
 {
-    if 16 <= width {
-        return true;
-    }
-    16 <= height
+    16 <= width || 16 <= height
 }
 
-// Number 4 or 5, or 0: of lambda and costs alone, which many blocks may share.
-pub fn price_fault(lambda: f32, costs: &[f32]) -> u32
-    ensures { result ≡ price_fault lambda costs.now }
+// Number 4 or 5: of lambda and costs alone, which many blocks may share.
+pub fn price_fault(lambda: f32, costs: &[f32]) -> Result<(), Refusal>
+    ensures { number result ≡ price_fault lambda costs.now }
 {
     if !samples::lambda_ok(lambda) {
-        return 4;
+        return Err(Refusal::Lambda);
     }
     if !samples::costs_ok(costs) {
-        return 5;
+        return Err(Refusal::Costs);
     }
-    0
+    Ok(())
 }
 
-// The first of the numbers 1 to 8 that applies, or 0; `price` is that of 4 and 5.
-pub fn fault(samples: &[f32], b: Block, price: u32, cells: usize, lines: usize) -> u32
-    ensures { (costs : List Float) → price ≡ price_fault b.lambda costs
-        → result ≡ fault_of samples.now costs b cells lines }
-{
-    if !accept::sides_ok(b.width, b.height) {
-        return 1;
-    }
-    if !accept::within(8, 12, b.bd as usize) {
-        return 2;
-    }
-    if samples.len() != b.width * b.height {
-        return 3;
-    }
-    if price != 0 {
-        return price;
-    }
-    if !samples::samples_ok(samples, b.bd) {
-        return 6;
-    }
-    if !accept::rooms_ok(b.width, b.height, cells, lines) {
-        return 7;
-    }
-    if !large_ok(b.width, b.height) {
-        return 8;
-    }
-    0
-}
-
-// Number 9 or 10, or 0.
-pub fn levels_fault(levels: usize) -> u32
-    ensures { result ≡ levels_fault levels }
+// Number 9 or 10.
+pub fn levels_fault(levels: usize) -> Result<(), Refusal>
+    ensures { number result ≡ levels_fault levels }
 {
     if levels < 2 {
-        return 9;
+        return Err(Refusal::OneLevel);
     }
     if 32 < levels {
-        return 10;
+        return Err(Refusal::ManyLevels);
     }
-    0
+    Ok(())
 }
 
 // The colours as f32.
 pub fn values(colors: [u16; 8]) -> [f32; 8]
     ensures { result ≡ map (nat binary32) colors }
 {
-    [
-        colors[0] as f32,
-        colors[1] as f32,
-        colors[2] as f32,
-        colors[3] as f32,
-        colors[4] as f32,
-        colors[5] as f32,
-        colors[6] as f32,
-        colors[7] as f32,
-    ]
+    colors.map(f32::from)
 }
 
-// What stands after a found map of a size: that map, if its total is strictly lower.
-fn judge(
-    b: Block,
-    z: Size,
-    transposed: bool,
-    best: Best,
-    error: f32,
-    bits: f32,
-    cells: &[u8],
-    lines: &[u8],
-    map: &mut [u8],
-    flags: &mut [u8],
-) -> Best
-    requires { (length cells.now ≤ length map.old) × (length lines.now ≤ length flags.old) }
-    ensures { (s : Standing) → Stands s best map.old flags.old
-        → Stands (judged b z transposed s cells.now lines.now (MapResult.Found error bits)) result
-        map.new flags.new }
-{
-    let all = z.head + bits;
-    let total = error + b.lambda * all;
-    if total < best.total {
-        lists::copy_bytes(cells, cells.len(), map);
-        lists::copy_bytes(lines, lines.len(), flags);
-        let colors = z.colors;
-        return Best {
-            total,
-            n: z.n,
-            colors,
-            transposed,
-            head: z.head,
-            map_bits: bits,
+// The best map so far, with its cells and flags from the front.
+#[derive(Drop)]
+pub struct BestMap {
+    pub best: Best,
+    pub cells: [u8; 4096],
+    pub lines: [u8; 64],
+}
+
+impl BestMap {
+    // Before any map: no total is too high.
+    fn new() -> Self
+        ensures { Stands none result }
+    {
+        let best = Best {
+            total: 1.0 / 0.0,
+            n: 0,
+            colors: [0u16; 8],
+            transposed: false,
+            head: 0.0,
+            map_bits: 0.0,
         };
-    }
-    best
-}
-
-// The map of a size in one orientation, or that its total reaches the bound; cells and lines are zeros, as many as it needs.
-pub fn map_in(
-    samples: &[f32],
-    costs: &[f32],
-    b: Block,
-    z: Size,
-    transposed: bool,
-    bound: f32,
-    cells: &mut [u8],
-    lines: &mut [u8],
-    orders: &[u8; 4096],
-    codes: &[u8; 4096],
-    colours: &[f32; 8],
-    marks: &[f32; 8],
-    cap: f32,
-    skips: &[bool; 64],
-) -> MapResult
-    requires passed { Passed samples.now costs.now b (b.width * b.height) 64 × (2 ≤ z.n) × (z.n ≤ 8) }
-    requires cells_value { (cells.old ≡ replicate (b.width * b.height) 0)
-        × (lines.old ≡ replicate (lines_of transposed b.width b.height) 0)
-        × Tables orders.now codes.now × Sized costs.now z colours.now cap skips.now }
-    ensures { Built (map_in samples.now costs.now b z transposed bound) result
-        cells.new lines.new }
-{
-    let s = scan::scan_of(b.width, b.height, transposed);
-    map_search::build_map(
-        samples, costs, colours, s, z.n, b.lambda, z.head, bound, cells, lines, orders, codes,
-        marks, cap, skips,
-    )
-}
-
-// As `try_scan`, with the map made in cells and lines, which are zeros and just as many as it needs.
-fn try_in(
-    samples: &[f32],
-    costs: &[f32],
-    b: Block,
-    z: Size,
-    transposed: bool,
-    best: Best,
-    cells: &mut [u8],
-    lines: &mut [u8],
-    map: &mut [u8],
-    flags: &mut [u8],
-    orders: &[u8; 4096],
-    codes: &[u8; 4096],
-    colours: &[f32; 8],
-    marks: &[f32; 8],
-    cap: f32,
-    skips: &[bool; 64],
-) -> Best
-    requires passed { Passed samples.now costs.now b (length map.old) (length flags.old) × (2 ≤ z.n) × (z.n ≤ 8) }
-    requires cells_value { (cells.old ≡ replicate (b.width * b.height) 0)
-        × (lines.old ≡ replicate (lines_of transposed b.width b.height) 0)
-        × Tables orders.now codes.now × Sized costs.now z colours.now cap skips.now }
-    ensures { (s : Standing) → Stands s best map.old flags.old
-        → Stands (tried samples.now costs.now b z transposed s) result map.new flags.new }
-{
-    let found = map_in(
-        samples, costs, b, z, transposed, best.total, cells, lines, orders, codes, colours, marks,
-        cap, skips,
-    );
-    match found {
-        MapResult::Beaten => best,
-        MapResult::Found(error, bits) => judge(
-            b, z, transposed, best, error, bits, cells, lines, map, flags,
-        ),
-    }
-}
-
-// One orientation of a size: what stands afterwards, its cells and flags from the front of map and flags.
-fn try_scan(
-    samples: &[f32],
-    costs: &[f32],
-    b: Block,
-    z: Size,
-    transposed: bool,
-    best: Best,
-    map: &mut [u8],
-    flags: &mut [u8],
-    orders: &[u8; 4096],
-    codes: &[u8; 4096],
-    colours: &[f32; 8],
-    marks: &[f32; 8],
-    cap: f32,
-    skips: &[bool; 64],
-) -> Best
-    requires { Passed samples.now costs.now b (length map.old) (length flags.old) × (2 ≤ z.n) × (z.n ≤ 8)
-        × Tables orders.now codes.now × Sized costs.now z colours.now cap skips.now }
-    ensures { (s : Standing) → Stands s best map.old flags.old
-        → Stands (tried samples.now costs.now b z transposed s) result map.new flags.new }
-{
-    let mut cells = [0u8; 4096];
-    let mut lines = [0u8; 64];
-    let count = context::lines_of(transposed, b.width, b.height);
-    try_in(
-        samples,
-        costs,
-        b,
-        z,
-        transposed,
-        best,
-        &mut cells[..b.width * b.height],
-        &mut lines[..count],
-        map,
-        flags,
-        orders,
-        codes,
-        colours,
-        marks,
-        cap,
-        skips,
-    )
-}
-
-// A size, plain and then transposed.
-fn try_both(
-    samples: &[f32],
-    costs: &[f32],
-    b: Block,
-    z: Size,
-    best: Best,
-    map: &mut [u8],
-    flags: &mut [u8],
-    orders: &[u8; 4096],
-    codes: &[u8; 4096],
-    colours: &[f32; 8],
-    marks: &[f32; 8],
-    cap: f32,
-    skips: &[bool; 64],
-) -> Best
-    requires { Passed samples.now costs.now b (length map.old) (length flags.old) × (2 ≤ z.n) × (z.n ≤ 8)
-        × Tables orders.now codes.now × Sized costs.now z colours.now cap skips.now }
-    ensures { (s : Standing) → Stands s best map.old flags.old
-        → Stands (tried_both samples.now costs.now b z s) result map.new flags.new }
-{
-    let plain = try_scan(
-        samples, costs, b, z, false, best, map, flags, orders, codes, colours, marks, cap, skips,
-    );
-    if !counts::orient_sent(b.width, b.height) {
-        return plain;
-    }
-    try_scan(
-        samples, costs, b, z, true, plain, map, flags, orders, codes, colours, marks, cap, skips,
-    )
-}
-
-// As `try_both`, with what is the same for both maps made here.
-fn try_size(
-    samples: &[f32],
-    costs: &[f32],
-    b: Block,
-    z: Size,
-    best: Best,
-    map: &mut [u8],
-    flags: &mut [u8],
-    orders: &[u8; 4096],
-    codes: &[u8; 4096],
-) -> Best
-    requires { Passed samples.now costs.now b (length map.old) (length flags.old) × (2 ≤ z.n) × (z.n ≤ 8)
-        × Tables orders.now codes.now }
-    ensures { (s : Standing) → Stands s best map.old flags.old
-        → Stands (tried_both samples.now costs.now b z s) result map.new flags.new }
-{
-    let colors = z.colors;
-    let colours = values(colors);
-    let marks = cells::marks_of(&colours, z.n);
-    let cap = cells::cap_of(costs, z.n);
-    let skips = cells::skips_of(z.n);
-    try_both(
-        samples, costs, b, z, best, map, flags, orders, codes, &colours, &marks, cap, &skips,
-    )
-}
-
-// The sizes by ascending `lb`, up to one that is not below the best.
-fn best_of(
-    samples: &[f32],
-    costs: &[f32],
-    b: Block,
-    h: groups::Histogram,
-    table: &[f64; 297],
-    cuts: &[usize; 297],
-    map: &mut [u8],
-    flags: &mut [u8],
-    orders: &[u8; 4096],
-    codes: &[u8; 4096],
-) -> Best
-    requires { Known costs.now b h table.now cuts.now
-        × Passed samples.now costs.now b (length map.old) (length flags.old)
-        × Tables orders.now codes.now }
-    ensures { Stands (searched samples.now costs.now b h) result map.new flags.new }
-{
-    let lbs = sizes::lbs_of(costs, b, h, table, cuts);
-    let mut left = sizes::open_sizes(h.n);
-    let mut best = Best {
-        total: 1.0 / 0.0,
-        n: 0,
-        colors: [0u16; 8],
-        transposed: false,
-        head: 0.0,
-        map_bits: 0.0,
-    };
-    let mut k = sizes::next_size(&lbs, &left);
-    while k != 0 {
-        if lbs[k] >= best.total {
-            return best;
+        BestMap {
+            best,
+            cells: [0u8; 4096],
+            lines: [0u8; 64],
         }
-        let z = sizes::size_of(costs, b, h, table, cuts, k);
-        best = try_size(samples, costs, b, z, best, map, flags, orders, codes);
-        left[k] = false;
-        k = sizes::next_size(&lbs, &left);
     }
-    best
-}
 
-// As `search_levels`, with the best map kept in cells and lines until it is final.
-fn search_in(
-    samples: &[f32],
-    costs: &[f32],
-    b: Block,
-    h: groups::Histogram,
-    cells: &mut [u8],
-    lines: &mut [u8],
-    map: &mut [u8],
-    flags: &mut [u8],
-    orders: &[u8; 4096],
-    codes: &[u8; 4096],
-) -> Palette
-    requires passed { Passed samples.now costs.now b (length map.old) (length flags.old)
-        × (length cells.old ≡ 4096) × (length lines.old ≡ 64) }
-    requires h_value { (h ≡ histogram_in samples.now) × (2 ≤ h.n) × (h.n ≤ 32) × Tables orders.now codes.now }
-    ensures { Written (found_in samples.now costs.now b)
-        map.old map.new flags.old flags.new result }
-{
-    let t = groups::tables_of(h, sizes::last_size(h.n));
-    let table = t.costs;
-    let cuts = t.cuts;
-    let best = best_of(
-        samples, costs, b, h, &table, &cuts, cells, lines, orders, codes,
-    );
-    lists::copy_bytes(cells, b.width * b.height, map);
-    lists::copy_bytes(
-        lines,
-        context::lines_of(best.transposed, b.width, b.height),
-        flags,
-    );
-    let colors = best.colors;
-    Palette {
-        number: 0,
-        n: best.n,
-        colors,
-        transposed: best.transposed,
-        head: best.head,
-        map_bits: best.map_bits,
+    // The next map stands, if its total is strictly lower.
+    fn judge(&mut self, next: Best, cells: &[u8], lines: &[u8])
+        requires { (length cells.now ≤ 4096) × (length lines.now ≤ 64) }
+        ensures { (s : Standing) → Stands s self.old
+            → Stands (lower s (record { best = next; map = cells.now; flags = lines.now })) self.new }
+    {
+        if next.total < self.best.total {
+            lists::copy_front(cells, cells.len(), &mut self.cells);
+            lists::copy_front(lines, lines.len(), &mut self.lines);
+            self.best = next;
+        }
+    }
+
+    // The palette of the best map, which is handed over.
+    fn hand_over(&self, b: Block, map: &mut [u8], flags: &mut [u8]) -> Palette
+        requires { (b.width * b.height ≤ 4096) × (b.width * b.height ≤ length map.old)
+            × (b.width ≤ 64) × (b.height ≤ 64) × (b.width ≤ length flags.old) × (b.height ≤ length flags.old) }
+        ensures { (s : Standing) → Stands s self.now → Whole b s → Written s map.old map.new flags.old flags.new result }
+    {
+        let best = self.best;
+        let lines = context::lines_of(best.transposed, b.width, b.height);
+        lists::copy_front(&self.cells, b.width * b.height, map);
+        lists::copy_front(&self.lines, lines, flags);
+        let colors = best.colors;
+        Palette {
+            number: 0,
+            n: best.n,
+            colors,
+            transposed: best.transposed,
+            head: best.head,
+            map_bits: best.map_bits,
+        }
     }
 }
 
-// The palette of a block that has passed the tests; the tables are made here, once.
-fn search_levels(
-    samples: &[f32],
-    costs: &[f32],
-    b: Block,
-    h: groups::Histogram,
-    map: &mut [u8],
-    flags: &mut [u8],
-) -> Palette
-    requires passed { Passed samples.now costs.now b (length map.old) (length flags.old) }
-    requires h_value { (h ≡ histogram_in samples.now) × (2 ≤ h.n) × (h.n ≤ 32) }
-    ensures { Written (found_in samples.now costs.now b)
-        map.old map.new flags.old flags.new result }
-{
-    let mut cells = [0u8; 4096];
-    let mut lines = [0u8; 64];
-    let orders = rows::orders();
-    let codes = rows::codes();
-    search_in(
-        samples, costs, b, h, &mut cells, &mut lines, map, flags, &orders, &codes,
-    )
+// A block that has passed the tests, and what its search is lent.
+#[derive(Clone, Copy)]
+pub struct Task<'a> {
+    pub samples: &'a [f32],
+    pub sizes: Sizes<'a>,
+    pub tables: &'a Tables,
+    pub ghost passed: { fault_of samples.now sizes.costs.now sizes.block 4096 64 ≡ 0 },
 }
 
-// As `search`, for lambda and costs that were tested before: `price` is their number.
-pub fn search_priced(
-    samples: &[f32],
-    costs: &[f32],
-    b: Block,
-    price: u32,
-    map: &mut [u8],
-    flags: &mut [u8],
-) -> Palette
-    requires { price ≡ price_fault b.lambda costs.now }
-    ensures { Searches samples.now costs.now b
-        map.old map.new flags.old flags.new result }
-{
-    let number = fault(samples, b, price, map.len(), flags.len());
-    if number != 0 {
-        return accept::refuse(number);
+impl Task<'_> {
+    // The sizes by ascending `lb`, up to one that is not below the best.
+    fn find(&self, kept: &mut BestMap)
+        requires { Stands none kept.old }
+        ensures { let z = self.now.sizes in
+            Stands (searched self.now.samples.now z.costs.now z.block z.histogram.now) kept.new }
+    {
+        let lbs = self.sizes.lbs_of();
+        let mut left = sizes::open_sizes(self.sizes.histogram.n);
+        while let Some(k) = sizes::next_size(&lbs, &left) {
+            if lbs[k] >= kept.best.total {
+                return;
+            }
+            Trial::new(&*self, self.sizes.size_of(k)).both(kept);
+            left[k] = false;
+        }
     }
-    let h = groups::histogram_of(samples, b.bd);
-    let levels = levels_fault(h.n);
-    if levels != 0 {
-        return accept::refuse(levels);
+}
+
+// A size of a block, and what is made once for both its maps.
+#[derive(Drop)]
+pub struct Trial<'a> {
+    pub task: &'a Task<'a>,
+    pub size: Size,
+    pub pricing: Pricing<'a>,
+    pub ghost priced: { (pricing.costs.now ≡ task.now.sizes.costs.now) × (pricing.lambda ≡ task.now.sizes.block.lambda)
+        × (pricing.n ≡ size.n) × (pricing.colors ≡ map (nat binary32) size.colors) },
+}
+
+impl<'a> Trial<'a> {
+    pub fn new(task: &'a Task<'a>, size: Size) -> Self
+        requires { (2 ≤ size.n) × (size.n ≤ 8) }
+        ensures { (result.task.now ≡ task.now) × (result.size ≡ size) }
+    {
+        let sizes = task.sizes;
+        let colors = values(size.colors);
+        Trial {
+            task,
+            size,
+            pricing: Pricing::new(sizes.costs, colors, size.n, sizes.block.lambda),
+        }
     }
-    search_levels(samples, costs, b, h, map, flags)
+
+    // The map in one orientation, or None where its total reaches the bound; cells and lines are zeros, as many as it needs.
+    pub fn map_in(
+        &self,
+        transposed: bool,
+        bound: f32,
+        cells: &mut [u8],
+        lines: &mut [u8],
+    ) -> Option<Cost>
+        requires { Zeros self.now.task.now.sizes.block transposed cells.old lines.old }
+        ensures { let t = self.now.task.now in
+            Built (map_in t.samples.now t.sizes.costs.now t.sizes.block self.now.size transposed bound) result cells.new lines.new }
+    {
+        let task = self.task;
+        let b = task.sizes.block;
+        let search = Search {
+            samples: task.samples,
+            scan: Scan::new(b.width, b.height, transposed),
+            pricing: &self.pricing,
+            tables: task.tables,
+        };
+        search.build_map(self.size.head, bound, cells, lines)
+    }
+
+    // As `one`, with the map made in cells and lines, which are zeros and just as many as it needs.
+    fn one_in(&self, transposed: bool, cells: &mut [u8], lines: &mut [u8], kept: &mut BestMap)
+        requires { Zeros self.now.task.now.sizes.block transposed cells.old lines.old }
+        ensures { let t = self.now.task.now in (s : Standing) → Stands s kept.old
+            → Stands (tried t.samples.now t.sizes.costs.now t.sizes.block self.now.size transposed s) kept.new }
+    {
+        if let Some(cost) = self.map_in(transposed, kept.best.total, cells, lines) {
+            let z = self.size;
+            let all = z.head + cost.rate;
+            // Stays (4): an array's field that is laid in a value straight gets no proof; so below.
+            let colors = z.colors;
+            let next = Best {
+                total: cost.dist + self.task.sizes.block.lambda * all,
+                n: z.n,
+                colors,
+                transposed,
+                head: z.head,
+                map_bits: cost.rate,
+            };
+            kept.judge(next, cells, lines);
+        }
+    }
+
+    // One orientation.
+    fn one(&self, transposed: bool, kept: &mut BestMap)
+        ensures { let t = self.now.task.now in (s : Standing) → Stands s kept.old
+            → Stands (tried t.samples.now t.sizes.costs.now t.sizes.block self.now.size transposed s) kept.new }
+    {
+        let b = self.task.sizes.block;
+        let count = context::lines_of(transposed, b.width, b.height);
+        let mut cells = [0u8; 4096];
+        let mut lines = [0u8; 64];
+        self.one_in(
+            transposed,
+            &mut cells[..b.width * b.height],
+            &mut lines[..count],
+            kept,
+        );
+    }
+
+    // Plain, and then transposed.
+    fn both(&self, kept: &mut BestMap)
+        ensures { let t = self.now.task.now in (s : Standing) → Stands s kept.old
+            → Stands (tried_both t.samples.now t.sizes.costs.now t.sizes.block self.now.size s) kept.new }
+    {
+        let b = self.task.sizes.block;
+        self.one(false, kept);
+        if counts::orient_sent(b.width, b.height) {
+            self.one(true, kept);
+        }
+    }
+}
+
+// A block to search; `price` is what was said of its lambda and costs, which many blocks may share.
+#[derive(Clone, Copy)]
+pub struct Asked<'a> {
+    pub samples: &'a [f32],
+    pub costs: &'a [f32],
+    pub block: Block,
+    pub price: Result<(), Refusal>,
+    pub ghost priced: { number price ≡ price_fault block.lambda costs.now },
+}
+
+impl Asked<'_> {
+    // The first of the numbers 1 to 8 that applies.
+    pub fn fault(&self, cells: usize, lines: usize) -> Result<(), Refusal>
+        ensures { number result ≡ fault_of self.now.samples.now self.now.costs.now self.now.block cells lines }
+    {
+        let b = self.block;
+        if !accept::sides_ok(b.width, b.height) {
+            return Err(Refusal::Side);
+        }
+        if !accept::within(8, 12, b.bd as usize) {
+            return Err(Refusal::Depth);
+        }
+        if self.samples.len() != b.width * b.height {
+            return Err(Refusal::SampleCount);
+        }
+        self.price?;
+        if !samples::samples_ok(self.samples, b.bd) {
+            return Err(Refusal::Sample);
+        }
+        if !accept::rooms_ok(b.width, b.height, cells, lines) {
+            return Err(Refusal::Room);
+        }
+        if !large_ok(b.width, b.height) {
+            return Err(Refusal::Small);
+        }
+        Ok(())
+    }
+
+    // The levels, or the first of the numbers 1 to 10 that applies.
+    fn levels(&self, cells: usize, lines: usize) -> Result<Histogram, Refusal>
+        ensures { Levels self.now.samples.now self.now.costs.now self.now.block cells lines result }
+    {
+        self.fault(cells, lines)?;
+        let h = groups::histogram_of(self.samples, self.block.bd);
+        levels_fault(h.n)?;
+        Ok(h)
+    }
+
+    // The palette of a block that has passed the tests, with these levels; the tables are made here, once.
+    fn search_levels(&self, h: &Histogram, map: &mut [u8], flags: &mut [u8]) -> Palette
+        requires passed { Passed self.now.samples.now self.now.costs.now self.now.block (length map.old) (length flags.old) }
+        requires levels { (h.now ≡ histogram_in self.now.samples.now) × (2 ≤ h.now.n) × (h.now.n ≤ 32) }
+        ensures { Written (found_in self.now.samples.now self.now.costs.now self.now.block)
+            map.old map.new flags.old flags.new result }
+    {
+        let programme = groups::tables_of(h, sizes::last_size(h.n));
+        let tables = Tables::new();
+        let task = Task {
+            samples: self.samples,
+            sizes: Sizes::new(self.costs, self.block, h, &programme),
+            tables: &tables,
+        };
+        let mut kept = BestMap::new();
+        task.find(&mut kept);
+        kept.hand_over(self.block, map, flags)
+    }
+
+    // As `search`.
+    pub fn search(&self, map: &mut [u8], flags: &mut [u8]) -> Palette
+        ensures { Searches self.now.samples.now self.now.costs.now self.now.block
+            map.old map.new flags.old flags.new result }
+    {
+        match self.levels(map.len(), flags.len()) {
+            Ok(h) => self.search_levels(&h, map, flags),
+            Err(refusal) => accept::refuse(refusal),
+        }
+    }
 }
 
 // Searches a block: its palette, with the map's cells and the flags written from the front; or a refusal that writes
 // nothing.
+// Stays (5): as `palette::search`, whose parameters the C interface gives one by one.
 pub fn search(
     samples: &[f32],
     width: usize,
@@ -472,11 +365,16 @@ pub fn search(
         (record { width = width; height = height; bd = bd; lambda = lambda })
         map.old map.new flags.old flags.new result }
 {
-    let b = Block {
-        width,
-        height,
-        bd,
-        lambda,
+    let asked = Asked {
+        samples,
+        costs,
+        block: Block {
+            width,
+            height,
+            bd,
+            lambda,
+        },
+        price: price_fault(lambda, costs),
     };
-    search_priced(samples, costs, b, price_fault(lambda, costs), map, flags)
+    asked.search(map, flags)
 }
