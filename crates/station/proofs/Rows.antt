@@ -22,7 +22,6 @@ use Rattle.search.proofs.Answer.{few_colors}
 use Rattle.strip.specs.Strip.{Searched}
 use Rattle.station.specs.Searched.{fields_of, bits_of}
 use Rattle.station.specs.Strip.{row_of, row_at, pair_at, Few}
-use Rattle.station.proofs.Arrays.{filled}
 
 -- of 64 answers, each told in k places, those before the i-th stand in front
 module _ {A : Type 0} (k : ℕ) (told : ℕ → List A) where
@@ -41,80 +40,19 @@ module _ {A : Type 0} (k : ℕ) (told : ℕ → List A) where
       let e : i ≡ 64 = omega arith in
       sym (take_all (k * 64) out (le_of_eq b.count)) ∙ rw e at b.front
 
--- a pair is put: head and map bits
-pub pair_turn : (answers : List Palette) (bits : List Float) (i : ℕ) → Begun 2 (pair_at answers) bits i → i < 64
-    → (p : Palette) → p ≡ get_or answers i (refused_by 0)
-    → Begun 2 (pair_at answers) (set (set bits (2 * i) p.head) (2 * i + 1) p.map_bits) (i + 1)
-pair_turn answers bits i b h p is =
-    let c = b.count in
-    let headed = set bits (2 * i) p.head in
-    let long : length headed ≡ 128 = length-set bits (2 * i) p.head ∙ c in
-    let k : 2 * (i + 1) ≡ 2 * i + 1 + 1 = omega arith in
-    let first : take (2 * i + 1) headed ≡ up_to (pair_at answers) i ++ (p.head ∷ []) =
-    rw add-one (take-suc-set bits (2 * i) p.head (omega arith)) ∙ ap (λ x. x ++ (p.head ∷ [])) b.front in
-    record {
-      most = omega arith;
-      count = length-set headed (2 * i + 1) p.map_bits ∙ long;
-      front = ap (λ m. take m (set headed (2 * i + 1) p.map_bits)) k
-          ∙ rw add-one (take-suc-set headed (2 * i + 1) p.map_bits (omega (arith, long)))
-          ∙ ap (λ x. x ++ (p.map_bits ∷ [])) first
-          ∙ append_assoc (up_to (pair_at answers) i) (p.head ∷ []) (p.map_bits ∷ [])
-          ∙ ap (λ q. up_to (pair_at answers) i ++ bits_of q) is ∙ sym (up_to_more (pair_at answers) i);
-    }
-
--- room for the fields behind the number
-pub ten_places : (rows : List ℕ) (i number : ℕ) → length rows ≡ 704 → i < 64
-    → 10 ≤ length (mid_of (11 * i + 1) (11 * i + 11 - (11 * i + 1)) (set rows (11 * i) number))
-ten_places rows i number e h =
-    let long : length (set rows (11 * i) number) ≡ 704 = length-set rows (11 * i) number ∙ e in
-    omega (arith, mid_len (11 * i + 1) (11 * i + 11) (set rows (11 * i) number) (omega arith))
-
--- a row is put: the number, and the fields in the ten places behind it
-module _ (answers : List Palette) (rows : List ℕ) (i : ℕ) (b : Begun 11 (row_at answers) rows i) (h : i < 64) (p : Palette)
-    (is : p ≡ get_or answers i (refused_by 0)) (fields new : List ℕ) (f : fields ≡ fields_of p.n p.colors p.transposed)
-    (ten : length fields ≡ 10) where
-  abbrev from : ℕ
-  from = 11 * i + 1
-
-  abbrev to : ℕ
-  to = 11 * i + 11
-
-  abbrev numbered : List ℕ
-  numbered = set rows (11 * i) p.number
-
-  long : length numbered ≡ 704
-  long = length-set rows (11 * i) p.number ∙ b.count
-
-  module _ (n : new ≡ written (mid_of from (to - from) numbered) 0 (take 10 fields)) where
-    room : length (mid_of from (to - from) numbered) ≡ to - from
-    room = mid_len from to numbered (omega (arith, long))
-
-    news : new ≡ fields
-    news =
-        n ∙ ap (written (mid_of from (to - from) numbered) 0) (take_all 10 fields (le_of_eq ten))
-        ∙ filled (mid_of from (to - from) numbered) fields (omega (arith, room, ten))
-
-    count_new : length new ≡ to - from
-    count_new = ap length news ∙ ten ∙ (omega arith)
-
-    fronts : take to (put_mid from (to - from) numbered new) ≡ up_to (row_at answers) (i + 1)
-    fronts =
-        let c = b.count in
-        let head : take from numbered ≡ up_to (row_at answers) i ++ (p.number ∷ []) =
-        rw add-one (take-suc-set rows (11 * i) p.number (omega arith)) ∙ ap (λ x. x ++ (p.number ∷ [])) b.front in
-        put_front from to numbered new (omega arith) (omega (arith, long)) count_new
-        ∙ ap (λ x. x ++ new) head ∙ append_assoc (up_to (row_at answers) i) (p.number ∷ []) new
-        ∙ ap (λ x. up_to (row_at answers) i ++ (p.number ∷ x)) (news ∙ f)
-        ∙ ap (λ q. up_to (row_at answers) i ++ row_of q) is ∙ sym (up_to_more (row_at answers) i)
-
-    pub turn : Begun 11 (row_at answers) (put_mid from (to - from) numbered new) (i + 1)
-    turn =
-        let k : 11 * (i + 1) ≡ to = omega arith in
-        record {
-          most = omega arith;
-          count = same_len_mid from (to - from) numbered new (count_new ∙ sym room) ∙ long;
-          front = ap (λ m. take m (put_mid from (to - from) numbered new)) k ∙ fronts;
-        }
+  -- the i-th is put in its places
+  pub turn : (out piece : List A) (i from to : ℕ) → Begun out i → i < 64 → from ≡ k * i → to ≡ k * (i + 1) → from ≤ to → to ≤ k * 64
+      → length piece ≡ to - from → piece ≡ told i → Begun (put_mid from (to - from) out piece) (i + 1)
+  turn out piece i from to b h start end up inside count is =
+      let c = b.count in
+      let long : to ≤ length out = rw c inside in
+      record {
+        most = omega arith;
+        count = same_len_mid from (to - from) out piece (count ∙ sym (mid_len from to out long)) ∙ c;
+        front = rw (← end) (put_front from to out piece up long count)
+            ∙ ap (λ m. take m out ++ piece) start ∙ ap (λ x. x ++ piece) b.front ∙ ap (λ x. up_to told i ++ x) is
+            ∙ sym (up_to_more told i);
+      }
 
 -- no answer of a searched strip has more than eight colours
 pub answers_few : (sides : List ℕ) (samples costs : List Float) (bd : ℕ) (lambda : Float) (map₀ map flags₀ flags : List ℕ)

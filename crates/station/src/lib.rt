@@ -1,9 +1,9 @@
 // The front door as C functions, for Rust and C to link. A slice is a pointer and a length. What a function returns beside
 // its number goes to an array, which holds zeros after a refusal.
+// Stays (1, 5): numbers for refusals, arrays lent for what is returned and parameters one by one are the C interface.
 #![tactic(auto)]
 
 ghost use Rattle.std.specs.Prelude.{◌≡◌, ◌∷◌, ◌++◌, length, ◌≤◌};
-ghost use Rattle.lists.specs.Written.{written};
 ghost use Rattle.counts.specs.Counts.{block_allowed};
 ghost use Rattle.color_ctx.specs.Context.{context_of};
 ghost use Rattle.costs.specs.Costs.{costs_number, costs_of};
@@ -14,7 +14,7 @@ ghost use Rattle.station.specs.Listed.{ListsTo};
 ghost use Rattle.reading.specs.Reading.{reading};
 ghost use Rattle.search.specs.Search.{estimate_of};
 ghost use Rattle.station.specs.Searched.{fields_of, SearchesTo};
-ghost use Rattle.station.specs.Strip.{Few, rows_of, pairs_of, StripsTo};
+ghost use Rattle.station.specs.Strip.{Few, row_of, rows_of, pairs_of, StripsTo};
 ghost use Rattle.station.specs.Read.{ReadsTo};
 
 use accept::Palette;
@@ -26,33 +26,15 @@ pub extern "C" fn palette_block_allowed(bw4: usize, bh4: usize) -> bool
     palette::block_allowed(bw4, bh4)
 }
 
-fn wide(index: u8) -> u32
-    ensures { result ≡ index }
-{
-    index as u32
-}
-
-// Eight places of an array filled.
-fn put(words: [u32; 17], at: usize, bytes: [u8; 8]) -> [u32; 17]
-    requires { at ≤ 9 }
-    ensures { result ≡ written words at bytes }
-{
-    let mut out = words;
-    let mut i: usize = 0;
-    while i < 8 {
-        out[at + i] = wide(bytes[i]);
-        i += 1;
-    }
-    out
-}
-
 // A context, its order and its ranks in one array.
 fn in_words(ctx: u32, order: [u8; 8], ranks: [u8; 8]) -> [u32; 17]
     ensures { result ≡ ctx ∷ order ++ ranks }
 {
     let mut words = [0u32; 17];
     words[0] = ctx;
-    put(put(words, 1, order), 9, ranks)
+    words[1..9].copy_from_slice(&order.map(u32::from));
+    words[9..].copy_from_slice(&ranks.map(u32::from));
+    words
 }
 
 #[unsafe(no_mangle)]
@@ -68,9 +50,7 @@ pub extern "C" fn palette_context(
     ensures context_after { context.new ≡ context_words (context_of map.now stride y x n) }
 {
     let found = palette::color_ctx(map, stride, y, x, n);
-    let order = found.order;
-    let ranks = found.ranks;
-    *context = in_words(found.ctx as u32, order, ranks);
+    *context = in_words(found.ctx as u32, found.order, found.ranks);
     found.number
 }
 
@@ -80,6 +60,7 @@ pub extern "C" fn palette_costs(adapted: &[u16], costs: &mut [f32; 301]) -> u32
     ensures costs_after { costs.new ≡ costs_of adapted.now }
 {
     let made = palette::make_costs(adapted);
+    // Stays (4): an array's field that is stored straight gets no proof.
     let table = made.costs;
     *costs = table;
     made.number
@@ -90,18 +71,11 @@ fn in_fields(n: usize, colors: [u16; 8], transposed: bool) -> [u32; 10]
     requires { n ≤ 8 }
     ensures { result ≡ fields_of n colors transposed }
 {
-    [
-        n as u32,
-        colors[0] as u32,
-        colors[1] as u32,
-        colors[2] as u32,
-        colors[3] as u32,
-        colors[4] as u32,
-        colors[5] as u32,
-        colors[6] as u32,
-        colors[7] as u32,
-        transposed as u32,
-    ]
+    let mut fields = [0u32; 10];
+    fields[0] = n as u32;
+    fields[1..9].copy_from_slice(&colors.map(u32::from));
+    fields[9] = u32::from(transposed);
+    fields
 }
 
 #[unsafe(no_mangle)]
@@ -123,8 +97,7 @@ pub extern "C" fn palette_search(
         found.new bits.new result }
 {
     let answer = palette::search(samples, width, height, bd, lambda, costs, map, flags);
-    let colors = answer.colors;
-    *found = in_fields(answer.n, colors, answer.transposed);
+    *found = in_fields(answer.n, answer.colors, answer.transposed);
     *bits = [answer.head, answer.map_bits];
     answer.number
 }
@@ -136,21 +109,26 @@ pub extern "C" fn palette_estimate(head: f32, map: f32) -> f32
     search::estimate(head, map)
 }
 
-// A row of eleven for each answer: its number, then its fields.
+// An answer's number, then its fields.
+fn in_row(p: Palette) -> [u32; 11]
+    requires { p.n ≤ 8 }
+    ensures { result ≡ row_of p }
+{
+    let mut row = [0u32; 11];
+    row[0] = p.number;
+    row[1..].copy_from_slice(&in_fields(p.n, p.colors, p.transposed));
+    row
+}
+
+// A row of eleven for each answer.
 fn in_rows(answers: [Palette; 64]) -> [u32; 704]
     requires { Few answers }
     ensures { result ≡ rows_of answers }
 {
     let mut rows = [0u32; 704];
-    let mut i: usize = 0;
-    while i < 64 {
-        let p = answers[i];
-        let colors = p.colors;
-        let fields = in_fields(p.n, colors, p.transposed);
+    for (i, p) in answers.iter().enumerate() {
         let at = 11 * i;
-        rows[at] = p.number;
-        lists::copy_words(&fields, 10, &mut rows[at + 1..at + 11]);
-        i += 1;
+        rows[at..at + 11].copy_from_slice(&in_row(*p));
     }
     rows
 }
@@ -160,13 +138,9 @@ fn in_pairs(answers: [Palette; 64]) -> [f32; 128]
     ensures { result ≡ pairs_of answers }
 {
     let mut bits = [0.0f32; 128];
-    let mut i: usize = 0;
-    while i < 64 {
-        let p = answers[i];
+    for (i, p) in answers.iter().enumerate() {
         let at = 2 * i;
-        bits[at] = p.head;
-        bits[at + 1] = p.map_bits;
-        i += 1;
+        bits[at..at + 2].copy_from_slice(&[p.head, p.map_bits]);
     }
     bits
 }
@@ -187,9 +161,8 @@ pub extern "C" fn palette_strip(
         map.old map.new flags.old flags.new answers.new bits.new result }
 {
     let strip = palette::search_strip(sides, samples, bd, lambda, costs, map, flags);
-    let found = strip.answers;
-    *answers = in_rows(found);
-    *bits = in_pairs(found);
+    *answers = in_rows(strip.answers);
+    *bits = in_pairs(strip.answers);
     strip.number
 }
 
@@ -211,9 +184,8 @@ pub extern "C" fn palette_list(
         (palette_of colors.now n transposed map.now flags.now)
         words.old words.new listed.new result }
 {
-    let eight = *colors;
     let answer = palette::list(
-        width, height, bd, eight, n, transposed, map, flags, cache, words,
+        width, height, bd, *colors, n, transposed, map, flags, cache, words,
     );
     *listed = [answer.count as u32, answer.raw_width];
     answer.number
@@ -234,8 +206,9 @@ pub extern "C" fn palette_pred(
     ensures { Predicts width height bd (palette_of colors.now n transposed map.now flags.now)
         values.old values.new result }
 {
-    let eight = *colors;
-    palette::pred(width, height, bd, eight, n, transposed, map, flags, values)
+    palette::pred(
+        width, height, bd, *colors, n, transposed, map, flags, values,
+    )
 }
 
 #[unsafe(no_mangle)]
@@ -254,7 +227,6 @@ pub extern "C" fn palette_read(
         map.old map.new flags.old flags.new read.new result }
 {
     let answer = palette::read(width, height, bd, cache, words, map, flags);
-    let colors = answer.colors;
-    *read = in_fields(answer.n, colors, answer.transposed);
+    *read = in_fields(answer.n, answer.colors, answer.transposed);
     answer.number
 }

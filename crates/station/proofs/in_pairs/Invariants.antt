@@ -1,10 +1,6 @@
-use Prim.Native.Nat.{◌-◌}
 use Rattle.station.specs.Strip.{pair_at}
 use Rattle.station.proofs.Rows.{Begun}
 use Rattle.station.proofs.in_pairs.Given as goal
 
 abbrev pub invariant-loop-i : goal.invariant-loop-i
-invariant-loop-i l = Begun 2 (pair_at l.answers) l.bits l.i
-
-abbrev pub decreases-loop-i : goal.decreases-loop-i
-decreases-loop-i l = 64 - l.i
+invariant-loop-i l = Begun 2 (pair_at l.fn.answers) l.bits l.i

@@ -1,10 +1,6 @@
-use Prim.Native.Nat.{◌-◌}
 use Rattle.station.specs.Strip.{row_at}
 use Rattle.station.proofs.Rows.{Begun}
 use Rattle.station.proofs.in_rows.Given as goal
 
 abbrev pub invariant-loop-i : goal.invariant-loop-i
-invariant-loop-i l = Begun 11 (row_at l.answers) l.rows l.i
-
-abbrev pub decreases-loop-i : goal.decreases-loop-i
-decreases-loop-i l = 64 - l.i
+invariant-loop-i l = Begun 11 (row_at l.fn.answers) l.rows l.i
