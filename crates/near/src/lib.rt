@@ -42,17 +42,15 @@ pub fn key_at(map: &[u8], codes: &Codes, w: usize, y: usize, x: usize) -> Key
     ensures { result ≡ key_at map.now w y x }
 {
     let p = y * w + x;
-    if y == 0 {
-        if x == 0 {
-            return edge_key(Index(0));
+    match (y, x) {
+        (0, 0) => edge_key(Index(0)),
+        (0, _) => edge_key(Index(map[p - 1])),
+        (_, 0) => edge_key(Index(map[p - w])),
+        _ => {
+            let left = Index(map[p - 1]);
+            let top = Index(map[p - w]);
+            let diag = Index(map[p - w - 1]);
+            three_key(codes, left, top, diag)
         }
-        return edge_key(Index(map[p - 1]));
     }
-    if x == 0 {
-        return edge_key(Index(map[p - w]));
-    }
-    let left = Index(map[p - 1]);
-    let top = Index(map[p - w]);
-    let diag = Index(map[p - w - 1]);
-    three_key(codes, left, top, diag)
 }

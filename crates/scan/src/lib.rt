@@ -24,23 +24,18 @@ impl Scan {
     pub fn new(w: usize, h: usize, transposed: bool) -> Self
         ensures { result ≡ scan_of w h transposed }
     {
-        if transposed {
-            return Scan {
-                w,
-                stride: 1,
-                step: w,
-                lines: w,
-                len: h,
-                transposed: true,
-            };
-        }
+        let (stride, step, lines, len) = if transposed {
+            (1, w, w, h)
+        } else {
+            (w, 1, h, w)
+        };
         Scan {
             w,
-            stride: w,
-            step: 1,
-            lines: h,
-            len: w,
-            transposed: false,
+            stride,
+            step,
+            lines,
+            len,
+            transposed,
         }
     }
 
