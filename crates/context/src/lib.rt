@@ -6,8 +6,7 @@ ghost use Rattle.std.specs.Prelude.{◌≡◌};
 ghost use Rattle.context.specs.Map.{lines_of, length_of};
 
 // An index: the place of a colour in the palette, as the map holds it.
-// Stays (5): that it is below 8 or n is asked where a row of the tables is read; a ghost field would ask it of each of the
-// places that take one from a map, and of `color_ctx`, which tests maps that may hold anything.
+// Stays (5): a ghost field for its bound would ask for a proof wherever one is taken from a map, which may hold anything.
 #[derive(Clone, Copy)]
 pub struct Index(pub u8);
 

@@ -545,7 +545,7 @@ impl Orders {
         requires { (row < 512) × (rank.0 < 8) }
         ensures { result.0 ≡ get_or (order_row row) rank.0 0 }
     {
-        Index(self.table[row * 8 + rank.0 as usize])
+        Index(self.table[row * 8 + usize::from(rank.0)])
     }
 }
 
@@ -566,7 +566,7 @@ impl Codes {
         requires { (row < 512) × (index.0 < 8) }
         ensures { result ≡ code_at row index.0 }
     {
-        self.table[row * 8 + index.0 as usize]
+        self.table[row * 8 + usize::from(index.0)]
     }
 
     // The rank of an index.
@@ -582,7 +582,7 @@ impl Codes {
         requires { row < 512 }
         ensures { result ≡ (around_row row).ctx }
     {
-        (self.code_at(row, Index(0)) / 8) as usize
+        usize::from(self.code_at(row, Index(0)) / 8)
     }
 }
 
@@ -621,5 +621,5 @@ pub fn row_of(left: Index, top: Index, diag: Index) -> usize
     requires { (left.0 < 8) × (top.0 < 8) × (diag.0 < 8) }
     ensures { result ≡ row_of left.0 top.0 diag.0 }
 {
-    (left.0 as usize * 8 + top.0 as usize) * 8 + diag.0 as usize
+    (usize::from(left.0) * 8 + usize::from(top.0)) * 8 + usize::from(diag.0)
 }
