@@ -58,18 +58,19 @@ module _ (w h bd : ℕ) (cache : List ℕ) (p : Palette) (before : List ℕ) whe
   -- a list that was made aside, as `deliver` answers for it
   pub delivered : refusal w h bd (length cache) p ≡ 0 → (made : Listed)
       → made.number ≡ 0 → made.count ≡ length list → made.raw_width ≡ raw_width_of list
-      → (words : List ℕ) → words ≡ list → (after : List ℕ) (r : Listed)
-      → r ≡ cond (leb made.count (length before)) made (refused_by 16)
-      → after ≡ cond (leb made.count (length before)) (written before 0 words) before
-      → Lists w h bd cache p before after r
-  delivered e made z c raw words is after = go (leb made.count (length before)) refl
+      → (words : List ℕ) → words ≡ list → (after : List ℕ) (k : ℕ)
+      → k ≡ cond (leb (length words) (length before)) 0 16
+      → after ≡ cond (leb (length words) (length before)) (written before 0 words) before
+      → Lists w h bd cache p before after (cond (eqb k 0) made (refused_by k))
+  delivered e made z c raw words is after = go (leb (length words) (length before)) refl
     where
-      go : (b : Bool) → leb made.count (length before) ≡ b → (r : Listed) → r ≡ cond b made (refused_by 16)
-          → after ≡ cond b (written before 0 words) before → Lists w h bd cache p before after r
-      go true fits r t a =
-          let room : length list ≤ length before = omega (arith, leb-true made.count (length before) fits, c) in
+      go : (b : Bool) → leb (length words) (length before) ≡ b → (k : ℕ) → k ≡ cond b 0 16
+          → after ≡ cond b (written before 0 words) before → Lists w h bd cache p before after (cond (eqb k 0) made (refused_by k))
+      go true fits k t a =
+          let room : length list ≤ length before = omega (arith, leb-true (length words) (length before) fits, ap length is) in
           rw t (whole e room after made (a ∙ ap (written before 0) is ∙ written_front before list room) z c raw)
-      go false fits r t a = rw t (short e (omega (arith, leb-false made.count (length before) fits, c)) after a)
+      go false fits k t a =
+          rw t (short e (omega (arith, leb-false (length words) (length before) fits, ap length is)) after a)
 
   -- a count is never above the longest list
   pub count_few : (after : List ℕ) (r : Listed) → Lists w h bd cache p before after r → r.count ≤ 4234

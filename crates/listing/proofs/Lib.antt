@@ -9,3 +9,4 @@ pub mod Raw
 pub mod RawFew
 pub mod Splits
 pub mod Values
+pub mod Refused
