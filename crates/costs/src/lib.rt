@@ -10,6 +10,7 @@ ghost use Rattle.costs.specs.Rows.{before, chance_of, row_at, defaults, number_o
 ghost use Rattle.costs.specs.Costs.{cost_in, table_costs, table_of, costs_number, MakesCosts};
 
 use refusals::Refusal;
+use std::array;
 
 // t[c] is the largest p with 2^c * p^16 <= 2^240. From 171 on neighbours may be equal: the last one counts.
 static THRESHOLDS: [u16; 241] = [
@@ -156,11 +157,7 @@ fn default_table() -> [u16; 260]
     ensures { result ≡ defaults }
 {
     let colors = tables::color_rows();
-    let mut table = [0u16; 260];
-    for (k, number) in table.iter_mut().enumerate() {
-        *number = default_at(&colors, k);
-    }
-    table
+    array::from_fn(|k| default_at(&colors, k))
 }
 
 // A used number falls from what stands before it to at least 1, an unused one is 0.

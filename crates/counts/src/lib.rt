@@ -1,7 +1,7 @@
-// Counts of bits, and tests of a block's sides. Each function answers for all arguments.
+// Counts of bits, and tests of a block's sides. Each function but `top_level` answers for all arguments.
 #![tactic(auto)]
 
-ghost use Rattle.std.specs.Prelude.{◌≡◌};
+ghost use Rattle.std.specs.Prelude.{◌≡◌, ◌-◌, ◌^◌, ◌≤◌};
 ghost use Rattle.counts.specs.Counts.{ceil_log2, uniform_bits, orient_sent, block_allowed};
 
 // The least b with v <= 2^b; 0 and 1 give 0.
@@ -26,6 +26,14 @@ pub fn uniform_bits(v: u32, n: u32) -> u32
     if (v as u64) < short { l - 1 } else { l }
 }
 
+// The largest level of the depth.
+pub fn top_level(bd: u32) -> u16
+    requires { bd ≤ 12 }
+    ensures { result ≡ 2 ^ bd - 1 }
+{
+    (1u16 << bd) - 1
+}
+
 // Whether an orientation bit is sent: both sides are below 64.
 pub fn orient_sent(width: usize, height: usize) -> bool
     ensures { result ≡ orient_sent width height }
@@ -34,14 +42,9 @@ pub fn orient_sent(width: usize, height: usize) -> bool
 }
 
 // Sides in units of 4. The sides are tested first, so that the product cannot overflow.
+#[tactic(auto, unfolding(crate::specs::Counts::block_allowed))]
 pub fn block_allowed(bw4: usize, bh4: usize) -> bool
     ensures { result ≡ block_allowed bw4 bh4 }
 {
-    if 16 < bw4 {
-        return false;
-    }
-    if 16 < bh4 {
-        return false;
-    }
-    4 <= bw4 * bh4
+    bw4 <= 16 && bh4 <= 16 && 4 <= bw4 * bh4
 }

@@ -29,7 +29,7 @@ pub fn histogram_of(samples: &[f32], bd: u32) -> Histogram
 {
     let mut counts = [0u16; 4096];
     count_levels(samples, &mut counts);
-    gather(&counts[..usize::from(samples::top_level(bd)) + 1])
+    gather(&counts[..usize::from(counts::top_level(bd)) + 1])
 }
 
 // How often each level occurs.

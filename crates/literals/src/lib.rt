@@ -40,7 +40,7 @@ pub fn top_level(bd: u32) -> Level
     requires { bd ≤ 12 }
     ensures { result.0 ≡ 2 ^ bd - 1 }
 {
-    Level(((1u64 << bd) - 1) as u16)
+    Level(counts::top_level(bd))
 }
 
 // The width after a step: what is left above the level reached cuts it.

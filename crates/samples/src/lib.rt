@@ -2,7 +2,7 @@
 // Where a function has a `requires`, the crates above have tested it before they call.
 #![tactic(auto)]
 
-ghost use Rattle.std.specs.Prelude.{◌≡◌, ◌-◌, ◌≤◌, ◌<◌, ◌^◌};
+ghost use Rattle.std.specs.Prelude.{◌≡◌, ◌≤◌, ◌<◌, ◌^◌};
 ghost use Rattle.std.specs.Float.{binary32, binary64};
 ghost use Rattle.std.specs.Float.Ieee.{of_bits};
 ghost use Rattle.std.specs.Float.Ieee.Nearest.{closest};
@@ -21,11 +21,7 @@ pub fn lambda_ok(lambda: f32) -> bool
 pub fn costs_ok(costs: &[f32]) -> bool
     ensures { result ≡ costs_ok costs.now }
 {
-    if costs.len() == 301 {
-        all_in_range(costs, 32)
-    } else {
-        false
-    }
+    costs.len() == 301 && all_in_range(costs, 32)
 }
 
 // Number 6: each sample is within 0..2^bd - 1.
@@ -33,15 +29,7 @@ pub fn samples_ok(samples: &[f32], bd: u32) -> bool
     requires { (8 ≤ bd) × (bd ≤ 12) }
     ensures { result ≡ samples_ok bd samples.now }
 {
-    all_in_range(samples, top_level(bd) as u32)
-}
-
-// The largest level of the depth.
-pub fn top_level(bd: u32) -> u16
-    requires { (8 ≤ bd) × (bd ≤ 12) }
-    ensures { result ≡ 2 ^ bd - 1 }
-{
-    (1u16 << bd) - 1
+    all_in_range(samples, u32::from(counts::top_level(bd)))
 }
 
 // Whether x is within 0..top. A NaN is not at most top, and of the floats with a sign only -0.0 is within: the bits tell it
@@ -50,10 +38,7 @@ fn in_range(x: f32, top: u32) -> bool
     requires { top ≤ 2 ^ 24 }
     ensures { result ≡ in_range top x }
 {
-    if x <= top as f32 {
-        return f32::to_bits(x) <= 0x8000_0000;
-    }
-    false
+    x <= top as f32 && f32::to_bits(x) <= 0x8000_0000
 }
 
 // Whether each float is within 0..top. It looks at all of them: without a way out the loop is quicker.
@@ -62,10 +47,8 @@ fn all_in_range(xs: &[f32], top: u32) -> bool
     ensures { result ≡ all_in_range top xs.now }
 {
     let mut ok = true;
-    let mut i: usize = 0;
-    while i < xs.len() {
-        ok = ok & in_range(xs[i], top);
-        i += 1;
+    for x in xs {
+        ok &= in_range(*x, top);
     }
     ok
 }

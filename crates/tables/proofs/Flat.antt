@@ -10,7 +10,7 @@ use Rattle.lists.specs.Counted.{up_to, all_below}
 use Rattle.lists.proofs.Counted.{all_below_at}
 use Rattle.tables.specs.Icdf.{color_table, color_rows}
 
-abbrev place : ℕ → ℕ
+abbrev pub place : ℕ → ℕ
 place k = get_or (get_or (get_or color_table (k / 35) []) (k / 7 % 5) []) (k % 7) 0
 
 all : all_below (λ k. eqb (place k) (get_or color_rows k 0)) 245 ≡ true

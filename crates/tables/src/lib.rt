@@ -4,13 +4,15 @@
 ghost use Rattle.std.specs.Prelude.{◌≡◌};
 ghost use Rattle.tables.specs.Icdf.{size_icdf, row_icdf, color_rows};
 
-const Y_SIZE_ICDF: [u16; 6] = [23989, 17673, 11991, 7865, 4845, 2365];
+use std::array;
+
+static Y_SIZE_ICDF: [u16; 6] = [23989, 17673, 11991, 7865, 4845, 2365];
 
 // One row for each line context; 3 is the first line's.
-const ROW_ICDF: [[u16; 2]; 4] = [[10253, 7017], [28754, 27535], [29220, 28605], [19769, 12]];
+static ROW_ICDF: [[u16; 2]; 4] = [[10253, 7017], [28754, 27535], [29220, 28605], [19769, 12]];
 
 // One block of rows for each number of colours from 2, in it one row for each context.
-const COLOR_ICDF: [[[u16; 7]; 5]; 7] = [
+static COLOR_ICDF: [[[u16; 7]; 5]; 7] = [
     [
         [4628, 0, 0, 0, 0, 0, 0],
         [16384, 0, 0, 0, 0, 0, 0],
@@ -63,36 +65,27 @@ const COLOR_ICDF: [[[u16; 7]; 5]; 7] = [
 ];
 
 // Number k of the size row; 0 past its end.
+#[tactic(auto, unfolding(crate::specs::Icdf::size_icdf, crate::specs::Icdf::size_table))]
 pub fn y_size_icdf(k: usize) -> u16
     ensures { result ≡ size_icdf k }
 {
-    if k < 6 { Y_SIZE_ICDF[k] } else { 0 }
+    Y_SIZE_ICDF.get(k).copied().unwrap_or(0)
 }
 
 // Number k of the row of a line context; 0 where there is none.
+#[tactic(auto, unfolding(crate::specs::Icdf::row_icdf, crate::specs::Icdf::row_table))]
 pub fn row_icdf(context: usize, k: usize) -> u16
     ensures { result ≡ row_icdf context k }
 {
-    if 4 <= context {
-        return 0;
+    if context < 4 && k < 2 {
+        return ROW_ICDF[context][k];
     }
-    if 2 <= k {
-        return 0;
-    }
-    ROW_ICDF[context][k]
+    0
 }
 
-// All rows of COLOR_ICDF, one behind the other: by n, then by context. Each reading of a constant table copies it, so a
-// caller that needs them all takes them at once.
+// All rows of COLOR_ICDF, one behind the other: by n, then by context.
 pub fn color_rows() -> [u16; 245]
     ensures { result ≡ color_rows }
 {
-    let table = COLOR_ICDF;
-    let mut rows = [0u16; 245];
-    let mut k: usize = 0;
-    while k < 245 {
-        rows[k] = table[k / 35][k / 7 % 5][k % 7];
-        k += 1;
-    }
-    rows
+    array::from_fn(|k| COLOR_ICDF[k / 35][k / 7 % 5][k % 7])
 }

@@ -1,20 +1,19 @@
-use mathlib.Core.Path.{sym}
+use mathlib.Core.Path.{◌≡◌, sym, ◌∙◌}
+use Prim.Native.Nat.{◌<◌}
 use native.Mathlib.Omega.{arith}
-use Rattle.lists.proofs.Each.{starts, more, whole}
+use lib.ListN.{get_or}
+use lib.Seq.{ext_get_or}
+use borrow.Author.Rules.{rules}
 use Rattle.costs.specs.Rows.{defaults}
 use Rattle.costs.proofs.Defaults.{count}
 use Rattle.costs.proofs.default_table.Goals as goal
 
-pub loop-k-init : goal.loop-k-init
-loop-k-init c = starts 0 defaults _ (sym count)
-
-pub default_at-requires : goal.default_at-requires
-default_at-requires c = (c.color_rows-colors.ensures, omega (arith, count, c.loop-k.invariant.count, c.loop-k-test.true))
-
-pub loop-k-preserved : goal.loop-k-preserved
-loop-k-preserved c =
-    let l = c.loop-k in
-    more 0 defaults l.number-items l.k _ l.invariant (omega (arith, l.invariant.count, c.loop-k-test.true)) c.default_at.ensures
-
 pub returns : goal.returns
-returns c = let l = c.loop-k in whole 0 defaults l.number-items l.k l.invariant (omega (arith, l.invariant.count, c.loop-k-test.false))
+returns c =
+    let items = c.from_fn.ensures.items in
+    ext_get_or 0 c.from_fn.result defaults (items.long ∙ sym count)
+    (λ i b.
+    let h : i < 260 = omega (arith, items.long, b) in
+    let call = items.at i 0 h in
+    let one : get_or c.from_fn.result i 0 ≡ get_or defaults i 0 = search rules in
+    one)

@@ -23,7 +23,7 @@ returns-then-x-top c =
     let below : le x (nat binary32 c.args.top) ≡ true = c.if-x-top.true in
     sign_bits x (subst T (sym c.well_formed.0.1) tt) (number_below x _ below) ∙ sym (rw below (and-true (le (of_bits binary32 0) x)))
 
-pub returns : goal.returns
-returns c =
+pub returns-else-x-top : goal.returns-else-x-top
+returns-else-x-top c =
     let above : le c.args.x (nat binary32 c.args.top) ≡ false = c.if-x-top.false in
     sym (rw above (and_false (le (of_bits binary32 0) c.args.x)))

@@ -11,10 +11,9 @@ use Rattle.samples.specs.Narrow.{narrow_of}
 use Rattle.samples.proofs.Fields.{sign_of}
 use Rattle.samples.proofs.Values.{number, none}
 use Rattle.samples.proofs.Signs.{narrow_sign, sign_32}
-use Rattle.samples.proofs.narrow.Statement.{statement}
-use Rattle.samples.proofs.narrow.Tie as tie
+use Rattle.samples.proofs.narrow.Goals as goal
+use Rattle.samples.proofs.narrow.Goals.{Start, After-narrow_bits-r}
 
--- `samples::narrow` meets its contract. Assumes nothing.
 module _ (x : Float) (f : T (fits binary64 x)) (z : is_nan x ≡ false) where
   top : to_bits binary64 x % 9223372036854775808 ≤ 0x7ff0_0000_0000_0000
   top =
@@ -39,50 +38,32 @@ no_nan b r h k =
     let e : c % 2147483648 ≡ r = omega arith in
     subst (λ z. T (not z)) (sym (nan_bits_above binary32 c ∙ ap (ltb 2139095040) e ∙ le-ltb 2139095040 r k)) tt
 
-held : (c : tie.Start) → T (fits binary64 c.args.x)
+held : (c : Start) → T (fits binary64 c.args.x)
 held c = subst T (sym c.well_formed.0.1) tt
 
-float-to-bits-b : tie.Need-float_to_bits-b
-float-to-bits-b c = subst (λ z. T (not z)) (sym (number c.before.args.x c.if-x.true)) tt
+pub narrow_bits-r-requires : goal.narrow_bits-r-requires
+narrow_bits-r-requires c = let x = c.args.x in top x (held c.before) (number x c.if-x.true)
 
-narrow-bits-requires : tie.Need-narrow_bits-r-requires
-narrow-bits-requires c κs = let x = c.before.args.x in top x (held c.before) (number x c.if-x.true)
+wide_at : (c : After-narrow_bits-r) → to_bits binary64 c.args.x < 2 ^ 64
+wide_at c = to_bits-lt binary64 c.args.x (held c.before.before)
 
-wide_at : (c : tie.After-narrow_bits-r) → to_bits binary64 c.before.before.args.x < 2 ^ 64
-wide_at c = to_bits-lt binary64 c.before.before.args.x (held c.before.before)
+pub overflow_mul-result : goal.overflow_mul-result
+overflow_mul-result c = omega (arith, wide_at c)
 
-mul-result : tie.Need-overflow_mul-result
-mul-result c = omega (arith, wide_at c)
+pub overflow_add-result : goal.overflow_add-result
+overflow_add-result c = omega (arith, wide_at c, c.narrow_bits-r.ensures.0)
 
-add-result : tie.Need-overflow_add-result
-add-result c = omega (arith, wide_at c, c.narrow_bits-r.ensures.0)
+pub overflow_cast-result : goal.overflow_cast-result
+overflow_cast-result c = omega (arith, wide_at c, c.narrow_bits-r.ensures.0)
 
-cast-result : tie.Need-overflow_cast-result
-cast-result c = omega (arith, wide_at c, c.narrow_bits-r.ensures.0)
+pub float_from_bits-result : goal.float_from_bits-result
+float_from_bits-result c = no_nan (to_bits binary64 c.args.x) c.narrow_bits-r.result (wide_at c) c.narrow_bits-r.ensures.0
 
-float-from-bits-result : tie.Need-float_from_bits-result
-float-from-bits-result c =
-    no_nan (to_bits binary64 c.before.before.args.x) c.narrow_bits-r.result (wide_at c) c.narrow_bits-r.ensures.0
-
-returns : tie.Need-returns-then-x
-returns c =
-    let s = c.before.before in
+pub returns-then-x : goal.returns-then-x
+returns-then-x c =
     let r = c.narrow_bits-r in
-    signed s.args.x (held s) (number s.args.x c.before.if-x.true) r.result r.ensures.0 r.ensures.1
+    signed c.args.x (held c.before.before) (number c.args.x c.if-x.true) r.result r.ensures.0 r.ensures.1
 
-returns-2 : tie.Need-returns
+pub returns : goal.returns
 unfolding of_bits div
-returns-2 c = rw (none c.before.args.x c.if-x.false) refl
-
-pub narrow_spec : {M : Type 1} → statement M
-narrow_spec =
-    tie.close
-    (tie.spec
-    float-to-bits-b
-    narrow-bits-requires
-    mul-result
-    add-result
-    cast-result
-    float-from-bits-result
-    returns
-    returns-2)
+returns c = rw (none c.args.x c.if-x.false) refl
