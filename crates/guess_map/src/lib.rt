@@ -40,14 +40,6 @@ fn index_of(entry: u8) -> Index
     Index(entry % 64 / 8)
 }
 
-// The index at a place of the map.
-fn index_in(map: &[u8], place: usize) -> Index
-    requires { (place < length map.now) × Below map.now 8 }
-    ensures { result.0 < 8 }
-{
-    Index(map[place])
-}
-
 impl Guess<'_> {
     // The eight entries of a row as one number, the first lowest: the compiler makes one load of it.
     fn entries(&self, row: u16) -> u64
@@ -81,10 +73,12 @@ impl Guess<'_> {
         requires { OnLine self.now.s l map.now }
         ensures { result.0 < 8 }
     {
-        if l == 0 {
-            return self.beside(Index(0), word);
-        }
-        self.beside(index_in(map, self.s.place(l - 1, 0)), word)
+        let near = if l == 0 {
+            0
+        } else {
+            map[self.s.place(l - 1, 0)]
+        };
+        self.beside(Index(near), word)
     }
 
     // The first line: each cell has one neighbour, the first as if index 0 stood before it.
@@ -109,8 +103,8 @@ impl Guess<'_> {
         let s = self.s;
         let part = part_of(s.transposed);
         for a in 1..s.len {
-            let above = index_in(map, s.place(l - 1, a));
-            let diag = index_in(map, s.place(l - 1, a - 1));
+            let above = Index(map[s.place(l - 1, a)]);
+            let diag = Index(map[s.place(l - 1, a - 1)]);
             rows[a] = row_at(part, above, diag, words[a]);
         }
     }
