@@ -1,5 +1,5 @@
 use Rattle.search.proofs.Passed.{ready_of}
-use Rattle.search.proofs.Tries.{scanned, buildable, map_is}
+use Rattle.search.proofs.Tries.{priced, scanned, buildable, map_is}
 use Rattle.search.proofs.Trial.map_in.Goals as goal
 
 pub invariant_of-search : goal.invariant_of-search
@@ -9,7 +9,9 @@ invariant_of-search c =
 pub build_map-requires : goal.build_map-requires
 build_map-requires c =
     let a = c.args.self.now in
-    buildable (ready_of (record { zero = a.task.now.passed })) c.args.transposed c.requires _ a.pricing.few.0 _ c.new.ensures
+    let ready = ready_of (record { zero = a.task.now.passed }) in
+    let fits = buildable ready c.args.transposed c.requires _ a.pricing.few.0 _ c.new.ensures in
+    (fits.0, fits.1, fits.2, fits.3, rw (a.priced.0, a.priced.1) (priced ready))
 
 pub returns : goal.returns
 returns c =
