@@ -7,7 +7,6 @@ use native.Mathlib.Omega.{arith}
 use lib.Dec.{eqb}
 use lib.ListN.{length}
 use borrow.Author.Tests.{eqb-true}
-use Rattle.lists.proofs.Choice.{either_way}
 use Rattle.literals.specs.Words.{raw_width_of}
 use Rattle.accept.specs.Palette.{Palette}
 use Rattle.accept.specs.Accepted.{refusal}
@@ -15,8 +14,8 @@ use Rattle.accept.proofs.Accepted.{accepted_of_zero}
 use Rattle.listing.specs.Listing.{call_list}
 use Rattle.listing.proofs.Length.{list_few}
 use Rattle.listing.proofs.RawFew.{raw_few}
-use Rattle.text.specs.Text.{read_header}
-use Rattle.text.proofs.Sound.{read_small, cells_small}
+use Rattle.text.specs.Text.{header_at, places_of, text_number, cache_at, palette_at}
+use Rattle.text.proofs.Sound.{in_form_small, cells_small}
 use Rattle.blocks.specs.declared.Block.{Block}
 use Rattle.blocks.specs.Block.{refused_block, listed_block, block_of, Few}
 
@@ -41,8 +40,14 @@ listed_few taken w h bd cache p small =
 pub block_few : (s : List ℕ) → Few (block_of s)
 unfolding block_of
 block_few s =
-    let h = read_header s 0 in
-    either_way (λ b. Few b) (eqb h.number 0) _ _ (listed_few _ _ _ _ _ _ (cells_small h (read_small s 0))) (refused_few h.number 0)
+    let h = header_at s 0 in
+    let listed = listed_block (places_of h 0).end h.width h.height h.bd (cache_at s 0 h) (palette_at s 0 h) in
+    let go : (t : Bool) → eqb (text_number s 0) 0 ≡ t → Few (cond t listed (refused_block (text_number s 0) 0)) =
+    elim [
+      | true ↦ λ e. listed_few _ _ _ _ _ _ (cells_small h (in_form_small s 0 h refl (eqb-true _ _ e)))
+      | false ↦ λ e. refused_few (text_number s 0) 0
+    ] in
+    go (eqb (text_number s 0) 0) refl
 
 pub with_few : (s : List ℕ) (b : Block) → b ≡ block_of s → (b ≡ block_of s) × Few b
 with_few s b e = (e, subst (λ (x : Block). Few x) (sym e) (block_few s))

@@ -16,11 +16,10 @@ use Rattle.accept.specs.Palette.{Palette, first_colors, palette_of}
 use Rattle.accept.specs.Accepted.{refusal}
 use Rattle.listing.specs.Listing.{call_list}
 use Rattle.text.specs.declared.Header.{Header}
-use Rattle.text.specs.Text.{most, header_at, Small, lines_in, places_of, is_body, text_number, read_header, cache_at, palette_at}
-use Rattle.text.proofs.Sound.{lines_small, cells_small, in_form, read_whole}
+use Rattle.text.specs.Text.{most, header_at, Small, lines_in, places_of, is_body, text_number, cache_at, palette_at}
+use Rattle.text.proofs.Sound.{lines_small, cells_small, in_form}
 use Rattle.text.proofs.Cut.{line_kept}
 use Rattle.text.proofs.CutPalette.{cut_palette, accepted_cut}
-use Rattle.text.proofs.Answered.{number_read}
 use Rattle.blocks.specs.declared.Block.{Block}
 use Rattle.blocks.specs.Block.{refused_block, listed_block, block_of, words_of}
 use Rattle.blocks.proofs.Listed.{listed_number, listed_calls, listed_cut}
@@ -31,28 +30,24 @@ taken l vs n e h =
     let k : length vs ≤ length l = omega arith in
     rw (← e) (written_take l vs k)
 
-module _ (s : List ℕ) (h : Header) (e : h ≡ read_header s 0) where
+module _ (s : List ℕ) (h : Header) (e : h ≡ header_at s 0) where
   -- a text that cannot be read, or a refused header
-  pub block_refused : (h.number ≡ 0 → ⊥) → refused_block h.number 0 ≡ block_of s
+  pub block_refused : (text_number s 0 ≡ 0 → ⊥) → refused_block (text_number s 0) 0 ≡ block_of s
   unfolding block_of
-  block_refused n = rw (← e) (sym (simp (ne_eqb _ _ n)))
+  block_refused n = sym (simp (ne_eqb _ _ n))
 
-  module _ (z : h.number ≡ 0) where
+  module _ (z : text_number s 0 ≡ 0) where
     abbrev p : Palette
     p = palette_at s 0 h
 
     abbrev cache : List ℕ
     cache = cache_at s 0 h
 
-    in_form_zero : text_number s 0 ≡ 0
-    in_form_zero = sym (ap (λ (x : Header). x.number) e ∙ number_read s 0) ∙ z
-
     -- the cache line's form keeps its entries below its room's limit
     cache_kept : cut 65535 cache ≡ cache
     unfolding cache_at is_body
     cache_kept =
-        let whole : h ≡ header_at s 0 = e ∙ sym (read_whole s 0 in_form_zero) in
-        let b : is_body s 0 h ≡ true = subst (λ (x : Header). is_body s 0 x ≡ true) (sym whole) (in_form s 0 in_form_zero).1 in
+        let b : is_body s 0 h ≡ true = subst (λ (x : Header). is_body s 0 x ≡ true) (sym e) (in_form s 0 z).1 in
         let q = places_of h 0 in
         let c = is_line 65535 s q.cache h.cached in
         let f = is_line most s q.flags (lines_in h) in
@@ -78,24 +73,20 @@ module _ (s : List ℕ) (h : Header) (e : h ≡ read_header s 0) where
 
     -- ---- the four slices, as reading leaves them
 
-    module _ (small : Small h) (k c f m k₀ c₀ f₀ m₀ : List ℕ) (lines cells : ℕ)
+    module _ (small : Small h) (k c f m k₀ c₀ f₀ m₀ : List ℕ)
         (room : (8 ≤ length k₀) × (64 ≤ length c₀) × (64 ≤ length f₀) × (4096 ≤ length m₀))
-        (pk : k ≡ cond (eqb h.number 0) (written k₀ 0 (cut 65535 p.colors)) k₀)
-        (pc : c ≡ cond (eqb h.number 0) (written c₀ 0 (cut 65535 cache)) c₀)
-        (pf : f ≡ cond (eqb h.number 0) (written f₀ 0 (cut 255 p.flags)) f₀)
-        (pm : m ≡ cond (eqb h.number 0) (written m₀ 0 (cut 255 p.map)) m₀)
-        (el : lines ≡ lines_in h) (ec : cells ≡ h.height * h.width) where
+        (pk : k ≡ written k₀ 0 (cut 65535 p.colors))
+        (pc : c ≡ written c₀ 0 (cut 65535 cache))
+        (pf : f ≡ written f₀ 0 (cut 255 p.flags))
+        (pm : m ≡ written m₀ 0 (cut 255 p.map)) where
       abbrev read : Palette
-      read = palette_of k h.n h.transposed (take cells m) (take lines f)
-
-      t : eqb h.number 0 ≡ true
-      t = eq-eqb _ _ z
+      read = palette_of k h.n h.transposed (take (h.height * h.width) m) (take (lines_in h) f)
 
       cache_read : take h.cached c ≡ cache
       unfolding cache_at
       cache_read =
           let vs = line_numbers s (places_of h 0).cache h.cached in
-          rw (pc, t)
+          rw pc
           (taken c₀ (cut 65535 vs) h.cached (length_cut 65535 vs ∙ length_line s (places_of h 0).cache h.cached)
           (omega (arith, small.cached, room.1)))
           ∙ cache_kept
@@ -108,14 +99,14 @@ module _ (s : List ℕ) (h : Header) (e : h ≡ read_header s 0) where
           let fs = line_numbers s q.flags (lines_in h) in
           let ms = row_numbers s q.rows h.width h.height in
           let qk : take h.n k ≡ cut 65535 us =
-          rw (pk, t)
+          rw pk
           (taken k₀ (cut 65535 us) h.n (length_cut 65535 us ∙ length_line s q.colors h.n) (omega (arith, small.colors, room.0))) in
-          let qf : take lines f ≡ cut 255 fs =
-          rw (pf, t, el)
+          let qf : take (lines_in h) f ≡ cut 255 fs =
+          rw pf
           (taken f₀ (cut 255 fs) (lines_in h) (length_cut 255 fs ∙ length_line s q.flags (lines_in h))
           (omega (arith, lines_small h small, room.2))) in
-          let qm : take cells m ≡ cut 255 ms =
-          rw (pm, t, ec)
+          let qm : take (h.height * h.width) m ≡ cut 255 ms =
+          rw pm
           (taken m₀ (cut 255 ms) (h.height * h.width) (length_cut 255 ms ∙ length_rows s q.rows h.width h.height)
           (omega (arith, cells_small h small, room.3))) in
           rw (le-leb h.n 8 small.colors, qk, qf, qm) refl
@@ -136,9 +127,9 @@ module _ (s : List ℕ) (h : Header) (e : h ≡ read_header s 0) where
 
 module _ (s : List ℕ) where
   abbrev h : Header
-  h = read_header s 0
+  h = header_at s 0
 
-  calls_by : (t : Bool) → eqb h.number 0 ≡ t → (block_of s).number ≡ 0 → (block_of s).calls ≡ length (words_of s)
+  calls_by : (t : Bool) → eqb (text_number s 0) 0 ≡ t → (block_of s).number ≡ 0 → (block_of s).calls ≡ length (words_of s)
   unfolding words_of
   calls_by true e z =
       let listed = block_listed s h refl (eqb-true _ _ e) in
@@ -151,4 +142,4 @@ module _ (s : List ℕ) where
       absurd (n (ap (λ (b : Block). b.number) (block_refused s h refl n) ∙ z))
 
   pub calls_told : (block_of s).number ≡ 0 → (block_of s).calls ≡ length (words_of s)
-  calls_told = calls_by (eqb h.number 0) refl
+  calls_told = calls_by (eqb (text_number s 0) 0) refl

@@ -5,7 +5,7 @@ use Rattle.literals.specs.Words.{raw_width_of}
 use Rattle.accept.specs.Palette.{Palette}
 use Rattle.accept.specs.Accepted.{refusal}
 use Rattle.listing.specs.Listing.{call_list}
-use Rattle.text.specs.Text.{read_header, places_of, cache_at, palette_at}
+use Rattle.text.specs.Text.{header_at, places_of, text_number, cache_at, palette_at}
 use Rattle.blocks.specs.declared.Block.{Block}
 
 -- a refusal counts nothing; `taken` bytes are the block's own, 0 where its end is not known
@@ -23,14 +23,14 @@ listed_block taken w h bd cache p =
 -- the block at the front of a text: where the text cannot be read, or its header is refused, its end is not known
 unfoldable pub block_of : List ℕ → Block
 block_of s =
-    let h = read_header s 0 in
-    cond (eqb h.number 0)
+    let h = header_at s 0 in
+    cond (eqb (text_number s 0) 0)
     (listed_block (places_of h 0).end h.width h.height h.bd (cache_at s 0 h) (palette_at s 0 h))
-    (refused_block h.number 0)
+    (refused_block (text_number s 0) 0)
 
 -- its call list, where it is not refused
 unfoldable pub words_of : List ℕ → List ℕ
-words_of s = let h = read_header s 0 in call_list h.width h.height h.bd (cache_at s 0 h) (palette_at s 0 h)
+words_of s = let h = header_at s 0 in call_list h.width h.height h.bd (cache_at s 0 h) (palette_at s 0 h)
 
 -- what no block exceeds; the bound of the raw width is easily had, not the least one
 pub record Few (b : Block) : Type 0 where

@@ -2,16 +2,17 @@
 // Open to the crates above only: functions may require room for every list, so that 16 does not occur.
 #![tactic(auto)]
 
-ghost use Rattle.std.specs.Prelude.{◌≡◌, cond, ◌≤◌, eqb, length};
+ghost use Rattle.std.specs.Prelude.{◌≡◌, cond, ◌*◌, ◌≤◌, eqb, length, take};
 ghost use Rattle.lists.specs.Written.{front};
 ghost use Rattle.accept.specs.Palette.{palette_of};
 ghost use Rattle.listing.specs.Listing.{call_list};
-ghost use Rattle.text.specs.Text.{Small};
+ghost use Rattle.text.specs.Text.{Small, lines_in};
 ghost use Rattle.blocks.specs.Block.{refused_block, listed_block, block_of, words_of, Few};
 
-use text::Header;
+use text::{Header, Numbers};
 
 // The number of a refusal or 0, how many bytes of the text are the block's own (0 where its end is not known), and what it counts.
+// Stays (1): `block_of` and the theorem `EachItsBlock` have these numbers, and `palette::list` answers with one.
 #[derive(Clone, Copy)]
 pub struct Block {
     pub number: u32,
@@ -35,32 +36,26 @@ pub fn refuse(number: u32, taken: usize) -> Block
 }
 
 // A palette whose text is in form: its list from the front of `words`, or its refusal.
-fn list_block(
-    h: Header,
-    taken: usize,
-    colors: [u16; 8],
-    map: &[u8],
-    flags: &[u8],
-    cache: &[u16],
-    words: &mut [u32],
-) -> Block
+fn list_block(h: Header, taken: usize, numbers: &Numbers, words: &mut [u32]) -> Block
     requires { Small h × (4234 ≤ length words.old) }
-    ensures value { result ≡ listed_block taken h.width h.height h.bd cache.now
-        (palette_of colors h.n h.transposed map.now flags.now) }
+    ensures value { result ≡ listed_block taken h.width h.height h.bd (take h.cached numbers.now.cache)
+        (palette_of numbers.now.colors h.n h.transposed (take (h.height * h.width) numbers.now.map) (take (lines_in h) numbers.now.flags)) }
     ensures words_after { words.new ≡ cond (eqb result.number 0)
-        (front (call_list h.width h.height h.bd cache.now
-        (palette_of colors h.n h.transposed map.now flags.now)) words.old) words.old }
+        (front (call_list h.width h.height h.bd (take h.cached numbers.now.cache)
+        (palette_of numbers.now.colors h.n h.transposed (take (h.height * h.width) numbers.now.map) (take (lines_in h) numbers.now.flags))) words.old)
+        words.old }
 {
+    let cells = text::cells_in(h);
     let l = palette::list(
         h.width,
         h.height,
         h.bd,
-        colors,
+        numbers.colors,
         h.n,
         h.transposed,
-        map,
-        flags,
-        cache,
+        &numbers.map[..cells],
+        &numbers.flags[..text::lines_in(h)],
+        &numbers.cache[..h.cached],
         words,
     );
     if l.number != 0 {
@@ -70,7 +65,7 @@ fn list_block(
         number: 0,
         taken,
         calls: l.count as u32,
-        cells: text::cells_in(h) as u32,
+        cells: cells as u32,
         raw: l.raw_width,
     }
 }
@@ -82,25 +77,9 @@ pub fn take_block(s: &[u8], words: &mut [u32]) -> Block
     ensures words_after { words.new ≡ cond (eqb result.number 0)
         (front (words_of s.now) words.old) words.old }
 {
-    let mut colors = [0u16; 8];
-    let mut cache = [0u16; 64];
-    let mut flags = [0u8; 64];
-    let mut map = [0u8; 4096];
-    let h = text::read_palette(s, 0, &mut colors, &mut cache, &mut flags, &mut map);
-    if h.number != 0 {
-        return refuse(h.number, 0);
+    let mut numbers = Numbers::new();
+    match text::read_palette(s, 0, &mut numbers) {
+        Ok(h) => list_block(h, text::places_of(h, 0).end, &numbers, words),
+        Err(refusal) => refuse(refusal.number(), 0),
     }
-    let p = text::places_of(h, 0);
-    let cells = text::cells_in(h);
-    let lines = text::lines_in(h);
-    let entries = h.cached;
-    list_block(
-        h,
-        p.end,
-        colors,
-        &map[..cells],
-        &flags[..lines],
-        &cache[..entries],
-        words,
-    )
 }

@@ -5,112 +5,52 @@
 // top row, in the left column, and inside with it on the left and each top and diagonal from 0 to 8.
 // A cell is ten bytes, then its map: the map's length, stride, y, x and n, each of two bytes, the low one first.
 // Its line: its place, the number, the context, the eight places of the order and those of the ranks.
-// Functions here may have a `requires`.
 #![tactic(auto)]
 
-ghost use Rattle.std.specs.Prelude.{◌<◌, ◌≤◌};
-
-use replaying::{hashed, pair, print_number, read_front, size, word};
+use replaying::{Hash, read_head, size};
 use std::io;
 use std::io::{Read, Write};
 
-fn hash_eight(h: u64, bytes: [u8; 8]) -> u64
-    requires { h < 4294967291 }
-    ensures { result < 4294967291 }
-{
-    let mut after = h;
-    for byte in bytes {
-        after = hashed(after, word(byte));
-    }
-    after
-}
-
-// A context as a word. None is as large as 256.
-fn small(ctx: usize) -> u32 {
-    if ctx < 256 {
-        return ctx as u32;
-    }
-    256
-}
-
-// The hash of an answer behind that of those before it.
-fn hash_answer(h: u64, map: &[u8], stride: usize, y: usize, x: usize, n: usize) -> u64
-    requires { h < 4294967291 }
-    ensures { result < 4294967291 }
-{
+// The hash of an answer behind that of those before it. No context is as large as 256, and none is the last of all numbers.
+fn hash_answer(h: Hash, map: &[u8], stride: usize, y: usize, x: usize, n: usize) -> Hash {
     let found = palette::color_ctx(map, stride, y, x, n);
-    let order = found.order;
-    let ranks = found.ranks;
-    let front = hashed(hashed(h, found.number), small(found.ctx));
-    hash_eight(hash_eight(front, order), ranks)
+    let front = h.with(found.number).with(found.ctx.min(256) as u32);
+    front.with_all(&found.order).with_all(&found.ranks)
 }
 
 // The answers with a neighbour on the left, each behind the one before.
-fn hash_inside(h: u64, left: u8, n: usize) -> u64
-    requires { h < 4294967291 }
-    ensures { result < 4294967291 }
-{
+fn hash_inside(h: Hash, left: u8, n: usize) -> Hash {
     let mut after = h;
-    for i in 0..81u8 {
-        let map = [i % 9, i / 9, left];
-        after = hash_answer(after, &map, 2, 1, 1, n);
+    for top in 0..9 {
+        for diagonal in 0..9 {
+            after = hash_answer(after, &[diagonal, top, left], 2, 1, 1, n);
+        }
     }
     after
 }
 
 fn print_neighbour<W: Write>(out: &mut W, n: usize, neighbour: u8) -> io::Result<()> {
-    let one = [neighbour];
-    let top_row = hash_answer(0, &one, 2, 0, 1, n);
-    let edges = hash_answer(top_row, &one, 1, 1, 0, n);
-    write!(out, "{n}")?;
-    print_number(out, neighbour as u64)?;
-    print_number(out, hash_inside(edges, neighbour, n))?;
-    out.write_all(b"\n")
-}
-
-fn print_neighbours<W: Write>(out: &mut W, n: usize) -> io::Result<()> {
-    for neighbour in 0..9 {
-        print_neighbour(out, n, neighbour)?;
-    }
-    Ok(())
+    let top_row = hash_answer(Hash::new(), &[neighbour], 2, 0, 1, n);
+    let edges = hash_answer(top_row, &[neighbour], 1, 1, 0, n);
+    writeln!(out, "{n} {neighbour} {}", hash_inside(edges, neighbour, n).value)
 }
 
 fn print_all<W: Write>(out: &mut W) -> io::Result<()> {
     for n in 0..11 {
-        print_neighbours(out, n)?;
+        for neighbour in 0..9 {
+            print_neighbour(out, n, neighbour)?;
+        }
     }
     Ok(())
 }
 
 // A number of two bytes, the low one first; the last 256 of them stand for the last of all numbers.
-fn far(low: u8, high: u8) -> usize {
-    let v = pair(low, high);
+fn far(bytes: [u8; 2]) -> usize {
+    let v = u16::from_le_bytes(bytes);
     if v < 65280 {
-        return v as usize;
+        return usize::from(v);
     }
-    18446744073709551615 - (65535 - v) as usize
-}
-
-fn print_eight<W: Write>(out: &mut W, bytes: [u8; 8]) -> io::Result<()> {
-    for byte in bytes {
-        print_number(out, byte as u64)?;
-    }
-    Ok(())
-}
-
-fn print_line<W: Write>(out: &mut W, place: u64, map: &[u8], head: &[u8; 10]) -> io::Result<()> {
-    let stride = far(head[2], head[3]);
-    let y = far(head[4], head[5]);
-    let x = far(head[6], head[7]);
-    let found = palette::color_ctx(map, stride, y, x, far(head[8], head[9]));
-    let order = found.order;
-    let ranks = found.ranks;
-    write!(out, "{place}")?;
-    print_number(out, found.number as u64)?;
-    print_number(out, found.ctx as u64)?;
-    print_eight(out, order)?;
-    print_eight(out, ranks)?;
-    out.write_all(b"\n")
+    usize::MAX - usize::from(u16::MAX - v)
 }
 
 // Reads the map that stands behind the ten bytes, and prints the cell's line.
@@ -118,26 +58,22 @@ fn replay<R: Read, W: Write>(
     input: &mut R,
     out: &mut W,
     place: u64,
-    head: &[u8; 10],
-    count: usize,
-) -> io::Result<()>
-    requires { count ≤ 600 }
-{
+    head: [u8; 10],
+) -> io::Result<()> {
+    let [c0, c1, s0, s1, y0, y1, x0, x1, n0, n1] = head;
+    let count = size([c0, c1], 600);
     let mut cells = [0u8; 600];
-    read_front(input, &mut cells, count)?;
-    print_line(out, place, &cells[..count], head)
-}
-
-// False once the input has no further cell.
-fn replay_next<R: Read, W: Write>(input: &mut R, out: &mut W, place: u64) -> io::Result<bool> {
-    let mut head = [0u8; 10];
-    let got = input::read_full(input, &mut head)?;
-    if got < 10 {
-        return Ok(false);
+    input::read_full(input, &mut cells[..count])?;
+    let map = &cells[..count];
+    let found = palette::color_ctx(map, far([s0, s1]), far([y0, y1]), far([x0, x1]), far([n0, n1]));
+    write!(out, "{place} {} {}", found.number, found.ctx)?;
+    for index in found.order {
+        write!(out, " {index}")?;
     }
-    let count = size(head[0], head[1], 600);
-    replay(input, out, place, &head, count)?;
-    Ok(true)
+    for rank in found.ranks {
+        write!(out, " {rank}")?;
+    }
+    out.write_all(b"\n")
 }
 
 fn main(rt: HostRuntime) -> io::Result<()> {
@@ -145,9 +81,10 @@ fn main(rt: HostRuntime) -> io::Result<()> {
     let mut out = rt.stdout();
     print_all(&mut out)?;
     for place in 1..10000 {
-        if !replay_next(&mut input, &mut out, place)? {
+        let Some(head) = read_head(&mut input)? else {
             break;
-        }
+        };
+        replay(&mut input, &mut out, place, head)?;
     }
     Ok(())
 }

@@ -5,19 +5,15 @@
 // Its line: its place, the number, n, the orientation, the eight colours, head and map bits by their bits, a hash of the map's
 // cells, whether the places behind them kept what they held, a hash of the flags, and whether the places behind them kept what
 // they held.
-// Functions here may have a `requires`.
 #![tactic(auto)]
 
-ghost use Rattle.std.specs.Prelude.{◌≡◌, ◌<◌, ◌≤◌, length, OnErr};
+ghost use Rattle.std.specs.Prelude.{◌<◌, ◌≤◌};
 
-use replaying::{
-    area, four, lines_of, print_answer, print_bytes, print_float, read_front, read_pairs, size,
-    wide, word, written,
-};
+use replaying::{print_answer, print_buffer, print_float, read_head, read_numbers, size, written};
 use std::io;
 use std::io::{Read, Write};
 
-#[derive(Drop)]
+#[derive(Clone, Copy)]
 struct Asked {
     width: usize,
     height: usize,
@@ -27,115 +23,66 @@ struct Asked {
     flag_room: usize,
     map_room: usize,
     count: usize,
+    ghost fronts: { (cached < 256) × (count ≤ 4240) },
+    ghost rooms: { (flag_room ≤ 80) × (map_room ≤ 4240) },
 }
 
-fn asked_by(head: &[u8; 9]) -> Asked
-    ensures { (result.cached < 256) × (result.flag_room ≤ 80) × (result.map_room ≤ 4240) × (result.count ≤ 4240) }
-{
-    Asked {
-        width: wide(head[0]),
-        height: wide(head[1]),
-        bd: word(head[2]),
-        cells: area(head[0], head[1]),
-        cached: wide(head[3]),
-        flag_room: size(head[4], 0, 80),
-        map_room: size(head[5], head[6], 4240),
-        count: size(head[7], head[8], 4240),
+impl Asked {
+    fn by(head: [u8; 9]) -> Asked {
+        let [width, height, bd, cached, flag_room, m0, m1, c0, c1] = head;
+        Asked {
+            width: usize::from(width),
+            height: usize::from(height),
+            bd: u32::from(bd),
+            cells: usize::from(width) * usize::from(height),
+            cached: usize::from(cached),
+            flag_room: usize::from(flag_room).min(80),
+            map_room: size([m0, m1], 4240),
+            count: size([c0, c1], 4240),
+        }
     }
 }
 
-// Reads as many words into the front.
-fn read_words<R: Read>(input: &mut R, words: &mut [u32], count: usize) -> io::Result<()>
-    requires { (count ≤ 4240) × (count ≤ length words.old) }
-    ensures { OnErr result (words.new ≡ words.old) }
-{
-    let mut bytes = [0u8; 16960];
-    read_front(input, &mut bytes, 4 * count)?;
-    for i in 0..count {
-        let at = 4 * i;
-        words[i] = four(bytes[at], bytes[at + 1], bytes[at + 2], bytes[at + 3]);
-    }
-    Ok(())
-}
-
-// Lends the front of both buffers, and prints the answer and what the buffers then hold.
-fn replay_read<W: Write>(
-    out: &mut W,
-    a: Asked,
-    cache: &[u16],
-    words: &[u32],
-    map: &mut [u8],
-    flags: &mut [u8],
-) -> io::Result<()>
-    requires { (a.map_room ≤ length map.old) × (a.flag_room ≤ length flags.old) }
-{
-    let map_room = a.map_room;
-    let flag_room = a.flag_room;
+// Lends the front of fresh buffers, and prints the answer and what the buffers then hold.
+fn replay_read<W: Write>(out: &mut W, a: Asked, cache: &[u16], words: &[u32]) -> io::Result<()> {
+    let mut map = [238u8; 4240];
+    let mut flags = [238u8; 80];
     let read = palette::read(
         a.width,
         a.height,
         a.bd,
         cache,
         words,
-        &mut map[..map_room],
-        &mut flags[..flag_room],
+        &mut map[..a.map_room],
+        &mut flags[..a.flag_room],
     );
-    let colors = read.colors;
-    let lines = lines_of(a.width, a.height, read.transposed);
-    print_answer(out, read.number, read.n, read.transposed, colors)?;
+    let lines = context::lines_of(read.transposed, a.width, a.height);
+    print_answer(out, read.number, read.n, read.transposed, read.colors)?;
     print_float(out, read.head)?;
     print_float(out, read.map_bits)?;
-    print_bytes(out, map, written(read.number, a.cells))?;
-    print_bytes(out, flags, written(read.number, lines))
-}
-
-fn print_line<W: Write>(
-    out: &mut W,
-    place: u64,
-    a: Asked,
-    cache: &[u16],
-    words: &[u32],
-) -> io::Result<()>
-    requires { (a.map_room ≤ 4240) × (a.flag_room ≤ 80) }
-{
-    let mut map = [238; 4240];
-    let mut flags = [238; 80];
-    write!(out, "{place}")?;
-    replay_read(out, a, cache, words, &mut map, &mut flags)?;
-    out.write_all(b"\n")
+    print_buffer(out, &map, written(read.number, a.cells), 238)?;
+    print_buffer(out, &flags, written(read.number, lines), 238)
 }
 
 // Reads what stands behind the 9 bytes, and prints the list's line.
-fn replay<R: Read, W: Write>(input: &mut R, out: &mut W, place: u64, a: Asked) -> io::Result<()>
-    requires { (a.cached < 256) × (a.flag_room ≤ 80) × (a.map_room ≤ 4240) × (a.count ≤ 4240) }
-{
+fn replay<R: Read, W: Write>(input: &mut R, out: &mut W, place: u64, a: Asked) -> io::Result<()> {
     let mut cache = [0u16; 256];
     let mut words = [0u32; 4240];
-    let cached = a.cached;
-    let count = a.count;
-    read_pairs(input, &mut cache, cached)?;
-    read_words(input, &mut words, count)?;
-    print_line(out, place, a, &cache[..cached], &words[..count])
-}
-
-// False once the input has no further list.
-fn replay_next<R: Read, W: Write>(input: &mut R, out: &mut W, place: u64) -> io::Result<bool> {
-    let mut head = [0u8; 9];
-    let got = input::read_full(input, &mut head)?;
-    if got < 9 {
-        return Ok(false);
-    }
-    replay(input, out, place, asked_by(&head))?;
-    Ok(true)
+    read_numbers(input, &mut cache[..a.cached])?;
+    read_numbers(input, &mut words[..a.count])?;
+    write!(out, "{place}")?;
+    replay_read(out, a, &cache[..a.cached], &words[..a.count])?;
+    out.write_all(b"\n")
 }
 
 fn main(rt: HostRuntime) -> io::Result<()> {
     let mut input = rt.stdin();
     let mut out = rt.stdout();
     for place in 1..10000 {
-        if !replay_next(&mut input, &mut out, place)? {
+        let Some(head) = read_head(&mut input)? else {
             break;
-        }
+        };
+        replay(&mut input, &mut out, place, Asked::by(head))?;
     }
     Ok(())
 }

@@ -14,6 +14,7 @@ use std::io::{Read, Write};
 use window::Window;
 
 // A turn: how many bytes it printed, how many it took (0 where the reading has ended), the page and the window after it.
+// Stays (1): `Turns` has the number taken, as `Steps` of crate reporting does.
 #[derive(Drop)]
 pub struct Turned {
     pub count: usize,
@@ -37,22 +38,15 @@ fn turn<R: Read>(
     ensures err { OnErr result ((out.new ≡ out.old) × (take (w.end - w.at) buf.new ≡ view w buf.old)) }
 {
     let held = window::hold(input, buf, w, 33972)?;
-    let at = held.at;
-    let end = held.end;
-    let more = held.more;
-    let s = reporting::step(&buf[at..end], p, out);
-    let taken = s.taken;
-    let page = s.page;
-    let window = Window {
-        at: at + taken,
-        end,
-        more,
-    };
+    let s = reporting::step(&buf[held.at..held.end], p, out);
     Ok(Turned {
         count: s.count,
-        taken,
-        page,
-        window,
+        taken: s.taken,
+        page: s.page,
+        window: Window {
+            at: held.at + s.taken,
+            ..held
+        },
     })
 }
 
@@ -65,8 +59,7 @@ fn walk<R: Read, W: Write>(input: &mut R, out: &mut W, buf: &mut [u8]) -> io::Re
     let mut page = reporting::blank_page();
     loop {
         let r = turn(input, buf, w, page, &mut line)?;
-        let count = r.count;
-        out.write_all(&line[..count])?;
+        out.write_all(&line[..r.count])?;
         if r.taken == 0 {
             return Ok(());
         }

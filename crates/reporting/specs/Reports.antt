@@ -14,7 +14,7 @@ use Rattle.emit.specs.Map.{ranked_word, cell_word, row_context, sent_cells, line
 use Rattle.listing.specs.Listing.{call_list}
 use Rattle.fields.specs.Fields.{is_digit, column, columns, field_at, is_line, line_numbers, are_rows, row_numbers}
 use Rattle.printing.specs.Printing.{digits, field, line}
-use Rattle.text.specs.Text.{header_at, header_fault, places_of, is_body, text_number, read_header, cache_at, palette_at}
+use Rattle.text.specs.Text.{header_at, header_fault, places_of, is_body, text_number, cache_at, palette_at}
 use Rattle.text.specs.Worked.{bytes, lines}
 use Rattle.blocks.specs.Block.{listed_block, block_of}
 use Rattle.reporting.specs.Fraction.{gcd_by, fraction}
@@ -116,7 +116,7 @@ reports =
 
 pub reports_hold : map (λ r. r.0) reports ≡ map (λ r. r.1) reports
 unfolding reports block single lines bytes report blocks_of block_line block_lines total page_of last_line fraction gcd_by listed_block block_of
-    text_number header_at read_header header_fault places_of is_body cache_at palette_at is_digit column columns field_at is_line
+    text_number header_at header_fault places_of is_body cache_at palette_at is_digit column columns field_at is_line
     line_numbers are_rows row_numbers digits field line sides_ok depth_ok colors_ok orient_ok cache_ok counts_ok line_ok map_ok refusal
     levels_ok all_in all_below above ascending line_cell word raw_bits raw_width_of call_list color_words cache_words untaken remove
     literal_words more_words step_words step_bits cut_bits largest_step least_bits ceil_log2 uniform_bits map_words orient_words up_to line_words
@@ -125,7 +125,7 @@ reports_hold = refl
 
 -- document 01's palette is the text of one palette, with nothing behind its last row
 pub good_whole : Whole (lines good)
-unfolding block lines bytes listed_block block_of text_number header_at read_header header_fault places_of is_body cache_at palette_at
+unfolding block lines bytes listed_block block_of text_number header_at header_fault places_of is_body cache_at palette_at
     is_digit column columns field_at is_line line_numbers are_rows row_numbers sides_ok depth_ok colors_ok orient_ok cache_ok counts_ok
     line_ok map_ok refusal levels_ok all_in all_below above ascending line_cell word raw_bits raw_width_of call_list color_words cache_words
     untaken remove literal_words more_words step_words step_bits cut_bits largest_step least_bits ceil_log2 uniform_bits map_words orient_words up_to

@@ -11,8 +11,10 @@ ghost use Rattle.reporting.specs.Report.{block_line, last_line};
 ghost use Rattle.reporting.specs.Steps.{blank, with, next_block, Steps, Fits};
 
 use blocks::Block;
+use refusals::Refusal;
 
 // How many block lines were printed, and their totals.
+// Stays (5): that it `Fits` is no ghost field, since `page_of` speaks of the pages of any blocks.
 #[derive(Clone, Copy)]
 pub struct Page {
     pub lines: u32,
@@ -22,6 +24,7 @@ pub struct Page {
 }
 
 // A step: how many bytes it printed, how many it took (0 where the reading has ended), and the page after it.
+// Stays (1): `Steps` and the theorem `StepsReport` have the number taken, which is a block's.
 #[derive(Drop)]
 pub struct Stepped {
     pub count: usize,
@@ -64,7 +67,7 @@ fn next_block(s: &[u8], p: Page) -> Block
     ensures { (result ≡ next_block p s.now) × Few result }
 {
     if p.lines == 9999 {
-        return blocks::refuse(19, 0);
+        return blocks::refuse(Refusal::BlockCount.number(), 0);
     }
     let mut words = [0u32; 4234];
     blocks::take_block(s, &mut words)
@@ -77,9 +80,7 @@ fn gcd_of(a: u32, b: u32) -> u32
     let mut x = a;
     let mut y = b;
     while y != 0 {
-        let rest = x % y;
-        x = y;
-        y = rest;
+        (x, y) = (y, x % y);
     }
     x
 }

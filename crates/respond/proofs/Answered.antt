@@ -13,10 +13,8 @@ use Rattle.lists.proofs.Choice.{or_true}
 use Rattle.printing.specs.Printing.{listed, refused}
 use Rattle.accept.specs.Accepted.{refusal}
 use Rattle.text.specs.declared.Header.{Header}
-use Rattle.text.specs.Text.{header_at, places_of, text_number, read_header, cache_at, palette_at}
+use Rattle.text.specs.Text.{header_at, places_of, text_number, cache_at, palette_at}
 use Rattle.text.specs.Answer.{shown, answer}
-use Rattle.text.proofs.Sound.{read_whole}
-use Rattle.text.proofs.Answered.{number_read}
 use Rattle.blocks.specs.declared.Block.{Block}
 use Rattle.blocks.specs.Block.{block_of, words_of}
 use Rattle.blocks.proofs.Listed.{listed_number, listed_taken}
@@ -54,9 +52,9 @@ module _ (s : List ℕ) where
     ends_late e = omega arith
 
     number_is : number ≡ cond (eqb end (length s)) fault 17
-    unfolding answer_number header_at
+    unfolding answer_number
     number_is =
-        let block = block_listed s h (read_whole s 0 z) refl in
+        let block = block_listed s h refl z in
         let cache = cache_at s 0 h in
         let p = palette_at s 0 h in
         rw (
@@ -68,7 +66,7 @@ module _ (s : List ℕ) where
 
     shown_is : shown h.width h.height h.bd (cache_at s 0 h) (palette_at s 0 h) ≡ told fault
     unfolding shown words_of
-    shown_is = rw (← read_whole s 0 z) refl
+    shown_is = refl
 
     in_form_by : (t : Bool) → eqb end (length s) ≡ t
         → cond t (shown h.width h.height h.bd (cache_at s 0 h) (palette_at s 0 h)) (refused 17) ≡ told (cond t fault 17)
@@ -84,9 +82,8 @@ module _ (s : List ℕ) where
       rw (e, number_is z) (in_form_by z (eqb (end z) (length s)) refl)
   answer_by false e =
       let n = eqb-false (text_number s 0) 0 e in
-      let k = number_read s 0 in
-      let block = block_refused s (read_header s 0) refl (λ z. n (sym k ∙ z)) in
-      let is : number ≡ text_number s 0 = ap (λ (b : Block). answer_number b (length s)) (sym block) ∙ k in
+      let block = block_refused s (header_at s 0) refl n in
+      let is : number ≡ text_number s 0 = ap (λ (b : Block). answer_number b (length s)) (sym block) in
       rw (e, is, e) refl
 
   answer_is : answer s ≡ told number

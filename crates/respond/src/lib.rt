@@ -7,6 +7,7 @@ ghost use Rattle.text.specs.Answer.{answer};
 ghost use Rattle.respond.specs.Number.{answer_number};
 
 use blocks::Block;
+use refusals::Refusal;
 
 // The number of a text that is `long` bytes: here text after the last row is 17.
 fn number_of(b: Block, long: usize) -> u32
@@ -15,7 +16,7 @@ fn number_of(b: Block, long: usize) -> u32
     if (b.taken == 0) | (b.taken == long) {
         return b.number;
     }
-    17
+    Refusal::Text.number()
 }
 
 // Writes the answer to the text s from the front of `out`, and returns its length. The longest is a line with the count and

@@ -1,4 +1,4 @@
--- The longest answer, and the number that reading a palette gives. Assumes nothing.
+-- The longest answer. Assumes nothing.
 use Prim.Native.Nat.{ℕ, ◌≤◌}
 use mathlib.Core.Path.{◌≡◌, refl, sym}
 use mathlib.Core.Bool.{Bool, true, false}
@@ -15,10 +15,8 @@ use Rattle.accept.specs.Accepted.{refusal}
 use Rattle.accept.proofs.Accepted.{accepted_of_zero}
 use Rattle.listing.specs.Listing.{call_list}
 use Rattle.listing.proofs.Length.{list_few}
-use Rattle.text.specs.Text.{header_at, places_of, text_number, read_header, cache_at, palette_at}
+use Rattle.text.specs.Text.{header_at, places_of, text_number, cache_at, palette_at}
 use Rattle.text.specs.Answer.{shown, answer}
-
--- ---- the longest answer
 
 module _ (w h bd : ℕ) (cache : List ℕ) (p : Palette) where
   most_by : (t : Bool) → eqb (refusal w h bd (length cache) p) 0 ≡ t → length (shown w h bd cache p) ≤ 105859
@@ -41,14 +39,3 @@ answer_most s =
     (either_way within (eqb (places_of h 0).end (length s)) _ _
     (shown_most h.width h.height h.bd (cache_at s 0 h) (palette_at s 0 h)) (few 17))
     (few (text_number s 0))
-
--- ---- the number that is read
-
-module _ (s : List ℕ) (at : ℕ) where
-  number_by : (t : Bool) → eqb (text_number s at) 0 ≡ t → (read_header s at).number ≡ text_number s at
-  unfolding read_header header_at
-  number_by true e = rw e (sym (eqb-true (text_number s at) 0 e))
-  number_by false e = rw e refl
-
-  pub number_read : (read_header s at).number ≡ text_number s at
-  number_read = number_by (eqb (text_number s at) 0) refl

@@ -15,7 +15,7 @@ use Rattle.fields.specs.declared.Field.TheVariants.{Blank}
 use Rattle.fields.specs.Fields.{column, columns, field_at, number_of, is_line, line_numbers, are_rows, row_numbers}
 use Rattle.printing.specs.Printing.{refused}
 use Rattle.text.specs.declared.Header.{Header}
-use Rattle.text.specs.Text.{most, number_at, header_at, header_fault, lines_in, places_of, is_body, text_number, read_header, cache_at, palette_at}
+use Rattle.text.specs.Text.{most, number_at, header_at, header_fault, lines_in, places_of, is_body, text_number, cache_at, palette_at}
 use Rattle.text.specs.Answer.{answer}
 use Rattle.text.proofs.Sound.{sound, end_small, in_form_small}
 use Rattle.text.proofs.Within.{end_within}
@@ -57,7 +57,7 @@ module _ (k room : ℕ) (s u : List ℕ) (same : (i : ℕ) → i < room → get_
     field_number_same : (j : ℕ) → at + (j + 8) ≤ room → number_at u (at + j) ≡ number_at s (p + j)
     field_number_same j h = ap number_of (field_same (at + j) (p + j) (omega arith) (omega arith))
 
-    header_same : at + 49 ≤ room → header_at u at ≡ header_at s p
+    pub header_same : at + 49 ≤ room → header_at u at ≡ header_at s p
     unfolding header_at
     header_same h =
         rw (
@@ -114,10 +114,6 @@ module _ (k room : ℕ) (s u : List ℕ) (same : (i : ℕ) → i < room → get_
       number_within : text_number u at ≡ text_number s p
       number_within = number_by (eqb (header_fault (header_at s p)) 0) refl
 
-      read_within : read_header u at ≡ read_header s p
-      unfolding read_header
-      read_within = rw (number_within, header_same head) refl
-
     -- it holds as much as a palette can take
     module _ (wide : at + 33972 ≤ room) where
       held : header_fault (header_at s p) ≡ 0 → (places_of (header_at s p) at).end ≤ room
@@ -125,9 +121,6 @@ module _ (k room : ℕ) (s u : List ℕ) (same : (i : ℕ) → i < room → get_
 
       pub number_same : text_number u at ≡ text_number s p
       number_same = number_within (omega arith) held
-
-      pub read_same : read_header u at ≡ read_header s p
-      read_same = read_within (omega arith) held
 
 -- ---- a palette in form is read alike whatever follows it
 
@@ -142,12 +135,12 @@ module _ (u v : List ℕ) (z : text_number u 0 ≡ 0) where
   unfolding places_of
   head_inside = omega (arith, ends)
 
-  same_header : header_at u 0 ≡ header_at (u ++ v) 0
+  pub same_header : header_at u 0 ≡ header_at (u ++ v) 0
   same_header = header_same 0 (length u) (u ++ v) u at_front 0 0 refl head_inside
 
-  pub read_front : read_header u 0 ≡ read_header (u ++ v) 0
-  read_front =
-      read_within 0 (length u) (u ++ v) u at_front 0 0 refl head_inside (λ f. rw (← same_header) ends)
+  pub number_front : text_number u 0 ≡ text_number (u ++ v) 0
+  number_front =
+      number_within 0 (length u) (u ++ v) u at_front 0 0 refl head_inside (λ f. rw (← same_header) ends)
 
   pub cache_front : cache_at u 0 (header_at u 0) ≡ cache_at (u ++ v) 0 (header_at u 0)
   cache_front = cache_same 0 (length u) (u ++ v) u at_front 0 0 refl (header_at u 0) ends

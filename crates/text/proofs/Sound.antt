@@ -1,6 +1,6 @@
--- A header without a fault is small; what a number of 0 says of a text, and how reading a palette ends. Assumes nothing.
+-- A header without a fault is small, and what a number of 0 says of a text. Assumes nothing.
 use Prim.Native.Nat.{ℕ, ◌+◌, ◌*◌, ◌≤◌}
-use mathlib.Core.Path.{◌≡◌, refl, sym, ◌∙◌, subst}
+use mathlib.Core.Path.{◌≡◌, refl, sym, ap, ◌∙◌, subst}
 use mathlib.Core.Bool.{Bool, true, false, cond, not, ◌&&◌, true≢false}
 use mathlib.Core.List.{List}
 use native.Mathlib.Nat.{mul-le-mul}
@@ -13,8 +13,13 @@ use Rattle.lists.proofs.Counted.{within_at}
 use Rattle.fields.specs.Fields.{is_line}
 use Rattle.accept.specs.Accepted.{sides_ok, depth_ok, orient_ok, cache_ok}
 use Rattle.accept.proofs.Accepted.{sides_at}
+use Rattle.refusals.specs.Numbers.{number_of, number}
+use Rattle.refusals.specs.declared.Refusal.{Refusal}
+use Rattle.refusals.specs.declared.Refusal.TheVariants.{Side, Depth, SampleCount, Lambda, Costs, Sample, Room, Small as Small_block, OneLevel, ManyLevels, Colors, Orientation, Cache, Lengths, Map, WordRoom, Text, Context, BlockCount, ListEnd, Word, WordsLeft, NotListed, AdaptedLength, AdaptedRows}
+use Rattle.std.specs.Prelude.{Result, Ok, Err}
+use Rattle.std.specs.Result.{IsErrAnd}
 use Rattle.text.specs.declared.Header.{Header}
-use Rattle.text.specs.Text.{most, number_at, header_at, refused_header, header_fault, Small, lines_in, places_of, is_body, text_number, read_header}
+use Rattle.text.specs.Text.{most, number_at, header_at, header_fault, Small, lines_in, places_of, is_body, text_number}
 
 -- ---- bounds
 
@@ -62,29 +67,36 @@ module _ (s : List ℕ) (at : ℕ) where
   pub in_form_small : (h : Header) → h ≡ header_at s at → text_number s at ≡ 0 → Small h
   in_form_small h e z = subst (λ (x : Header). Small x) (sym e) (sound (header_at s at) (in_form z).0)
 
-  pub read_refused : (k : ℕ) → k ≡ text_number s at → (k ≡ 0 → ⊥) → refused_header k ≡ read_header s at
-  unfolding read_header
-  read_refused k e n = rw e (sym (simp (ne_eqb _ _ (λ z. n (e ∙ z)))))
+-- ---- a refusal that is passed on
 
-  pub read_whole : text_number s at ≡ 0 → header_at s at ≡ read_header s at
-  unfolding read_header
-  read_whole e = sym (simp (eq-eqb _ _ e))
+pub passed_on : {A : Type 0} (r : Result A Refusal) (e : Refusal) → IsErrAnd r (λ x. x ≡ e) → number r ≡ number_of e
+passed_on (Ok a) e h = absurd h
+passed_on (Err x) e h = ap number_of h
 
-  small_by : (t : Bool) → eqb (text_number s at) 0 ≡ t → Small (cond t (header_at s at) (refused_header (text_number s at)))
-  small_by true e = in_form_small (header_at s at) refl (eqb-true (text_number s at) 0 e)
-  small_by false e = record { width = omega arith; height = omega arith; colors = omega arith; cached = omega arith }
-
-  pub read_small : Small (read_header s at)
-  unfolding read_header
-  read_small = small_by (eqb (text_number s at) 0) refl
-
-  pub with_small : (r : Header) → r ≡ read_header s at → (r ≡ read_header s at) × Small r
-  with_small r e = (e, subst (λ (x : Header). Small x) (sym e) read_small)
-
--- ---- a lent slice after a refusal, and after none
-
-pub untouched : (k : ℕ) (a b : List ℕ) → (k ≡ 0 → ⊥) → b ≡ cond (eqb k 0) a b
-untouched k a b n = sym (simp (ne_eqb _ _ n))
-
-pub filled : (k : ℕ) (x a b : List ℕ) → k ≡ 0 → x ≡ a → x ≡ cond (eqb k 0) a b
-filled k x a b n e = e ∙ sym (simp (eq-eqb _ _ n))
+-- no refusal has the number 0
+pub number_ne : (e : Refusal) → number_of e ≡ 0 → ⊥
+number_ne Side e = omega arith
+number_ne Depth e = omega arith
+number_ne SampleCount e = omega arith
+number_ne Lambda e = omega arith
+number_ne Costs e = omega arith
+number_ne Sample e = omega arith
+number_ne Room e = omega arith
+number_ne Small_block e = omega arith
+number_ne OneLevel e = omega arith
+number_ne ManyLevels e = omega arith
+number_ne Colors e = omega arith
+number_ne Orientation e = omega arith
+number_ne Cache e = omega arith
+number_ne Lengths e = omega arith
+number_ne Map e = omega arith
+number_ne WordRoom e = omega arith
+number_ne Text e = omega arith
+number_ne Context e = omega arith
+number_ne BlockCount e = omega arith
+number_ne ListEnd e = omega arith
+number_ne Word e = omega arith
+number_ne WordsLeft e = omega arith
+number_ne NotListed e = omega arith
+number_ne AdaptedLength e = omega arith
+number_ne AdaptedRows e = omega arith

@@ -1,5 +1,5 @@
 -- Document 01, 'Listing program', the input: a palette's text at a place of a text. The header says where each line stands.
-use Rattle.std.specs.Prelude.{ℕ, ◌+◌, ◌*◌, ◌≤◌, Bool, false, cond, not, ◌&&◌, List, eqb, leb}
+use Rattle.std.specs.Prelude.{ℕ, ◌+◌, ◌*◌, ◌≤◌, Bool, cond, not, ◌&&◌, List, eqb, leb}
 use Rattle.lists.specs.Counted.{within}
 use Rattle.fields.specs.Fields.{field_at, number_of, is_line, line_numbers, are_rows, row_numbers}
 use Rattle.context.specs.Map.{lines_of}
@@ -18,7 +18,6 @@ number_at s at = number_of (field_at s at)
 unfoldable pub header_at : List ℕ → ℕ → Header
 header_at s at =
     record {
-      number = 0;
       width = number_at s at;
       height = number_at s (at + 8);
       n = number_at s (at + 16);
@@ -26,9 +25,6 @@ header_at s at =
       transposed = eqb (number_at s (at + 32)) 1;
       cached = number_at s (at + 40);
     }
-
-abbrev pub refused_header : ℕ → Header
-refused_header k = record { number = k; width = 0; height = 0; n = 0; bd = 0; transposed = false; cached = 0 }
 
 -- the first of 1, 2, 11 (its n), 12 and 13 that applies, or 0
 unfoldable pub header_fault : Header → ℕ
@@ -72,10 +68,7 @@ text_number s at =
     cond (not (is_line most s at 6 && leb (number_at s (at + 32)) 1)) 17
     (cond (eqb (header_fault h) 0) (cond (not (is_body s at h)) 17 0) (header_fault h))
 
--- what is read: the header, the cache and the palette
-unfoldable pub read_header : List ℕ → ℕ → Header
-read_header s at = cond (eqb (text_number s at) 0) (header_at s at) (refused_header (text_number s at))
-
+-- what is read after the header: the cache and the palette
 unfoldable pub cache_at : List ℕ → ℕ → Header → List ℕ
 cache_at s at h = line_numbers s (places_of h at).cache h.cached
 

@@ -2,21 +2,45 @@
 // Open to the crates above only: functions may require a header without faults, or room.
 #![tactic(auto)]
 
-ghost use Rattle.std.specs.Prelude.{◌≡◌, cond, ◌+◌, ◌*◌, ◌<◌, ◌≤◌, eqb, length};
+ghost use Rattle.std.specs.Prelude.{◌≡◌, ◌+◌, ◌*◌, ◌<◌, ◌≤◌, IfOk, OnErr};
 ghost use Rattle.lists.specs.Written.{written};
 ghost use Rattle.fields.specs.Fields.{cut};
-ghost use Rattle.text.specs.Text.{header_at, refused_header, header_fault, Small, lines_in, places_of, is_body, text_number, cache_at, palette_at, read_header};
+ghost use Rattle.refusals.specs.Numbers.{number};
+ghost use Rattle.text.specs.Text.{header_at, header_fault, Small, lines_in, places_of, is_body, text_number, cache_at, palette_at};
 
-// The number of a refusal and zeros, or 0 and the header's fields.
+use refusals::Refusal;
+
+// The header's fields.
+// Stays (5): that it is `Small` is no ghost field, since `header_at` speaks of headers that are refused too.
 #[derive(Clone, Copy)]
 pub struct Header {
-    pub number: u32,
     pub width: usize,
     pub height: usize,
     pub n: usize,
     pub bd: u32,
     pub transposed: bool,
     pub cached: usize,
+}
+
+// The numbers of the lines after the header, from the front of each room.
+// Stays (6): no heap, so that each room is as large as a header allows, and the header has the lengths.
+#[derive(Drop)]
+pub struct Numbers {
+    pub colors: [u16; 8],
+    pub cache: [u16; 64],
+    pub flags: [u8; 64],
+    pub map: [u8; 4096],
+}
+
+impl Numbers {
+    pub fn new() -> Numbers {
+        Numbers {
+            colors: [0; 8],
+            cache: [0; 64],
+            flags: [0; 64],
+            map: [0; 4096],
+        }
+    }
 }
 
 // Where the lines after the header stand, and where the palette ends.
@@ -29,60 +53,39 @@ pub struct Places {
     pub end: usize,
 }
 
-fn header_fault(h: Header) -> u32
-    ensures { result ≡ header_fault h }
+fn header_fault(h: Header) -> Result<(), Refusal>
+    ensures { number result ≡ header_fault h }
 {
     if !accept::sides_ok(h.width, h.height) {
-        return 1;
+        return Err(Refusal::Side);
     }
     if !accept::within(8, 12, h.bd as usize) {
-        return 2;
+        return Err(Refusal::Depth);
     }
     if !accept::within(2, 8, h.n) {
-        return 11;
+        return Err(Refusal::Colors);
     }
     if !accept::orient_ok(h.width, h.height, h.transposed) {
-        return 12;
+        return Err(Refusal::Orientation);
     }
     if h.cached > 64 {
-        return 13;
+        return Err(Refusal::Cache);
     }
-    0
+    Ok(())
 }
 
-// The header's fields as they stand, tested by `text_number`.
+// The header's fields as they stand, tested by `text_fault`.
 fn read_header(s: &[u8], at: usize) -> Header
     requires { at < 1000000000 }
     ensures { result ≡ header_at s.now at }
 {
-    let width = fields::number_at(s, at) as usize;
-    let height = fields::number_at(s, at + 8) as usize;
-    let n = fields::number_at(s, at + 16) as usize;
-    let bd = fields::number_at(s, at + 24);
-    let transposed = fields::number_at(s, at + 32) == 1;
-    let cached = fields::number_at(s, at + 40) as usize;
     Header {
-        number: 0,
-        width,
-        height,
-        n,
-        bd,
-        transposed,
-        cached,
-    }
-}
-
-fn refuse(number: u32) -> Header
-    ensures { result ≡ refused_header number }
-{
-    Header {
-        number,
-        width: 0,
-        height: 0,
-        n: 0,
-        bd: 0,
-        transposed: false,
-        cached: 0,
+        width: fields::number_at(s, at) as usize,
+        height: fields::number_at(s, at + 8) as usize,
+        n: fields::number_at(s, at + 16) as usize,
+        bd: fields::number_at(s, at + 24),
+        transposed: fields::number_at(s, at + 32) == 1,
+        cached: fields::number_at(s, at + 40) as usize,
     }
 }
 
@@ -91,10 +94,7 @@ pub fn lines_in(h: Header) -> usize
     requires { Small h }
     ensures { (result ≡ lines_in h) × (result ≤ 64) }
 {
-    if h.transposed {
-        return h.width;
-    }
-    h.height
+    if h.transposed { h.width } else { h.height }
 }
 
 pub fn cells_in(h: Header) -> usize
@@ -136,74 +136,49 @@ fn is_body(s: &[u8], at: usize, h: Header) -> bool
         & fields::are_rows(99999999, s, p.rows, h.width, h.height)
 }
 
-// The number of the text at a place, whose header is h.
-fn text_number(s: &[u8], at: usize, h: Header) -> u32
+// Whether the text at a place, whose header is h, is in form.
+fn text_fault(s: &[u8], at: usize, h: Header) -> Result<(), Refusal>
     requires { (h ≡ header_at s.now at) × (at < 1000000000) }
-    ensures { result ≡ text_number s.now at }
+    ensures { number result ≡ text_number s.now at }
 {
     if !(fields::is_line(99999999, s, at, 6) & (fields::number_at(s, at + 32) <= 1)) {
-        return 17;
+        return Err(Refusal::Text);
     }
-    let fault = header_fault(h);
-    if fault != 0 {
-        return fault;
+    header_fault(h)?;
+    if !is_body(s, at, h) {
+        return Err(Refusal::Text);
     }
-    if is_body(s, at, h) {
-        return 0;
-    }
-    17
+    Ok(())
 }
 
 // Numbers too large for their room are cut to its limit, which changes no answer.
-fn read_body(
-    s: &[u8],
-    at: usize,
-    h: Header,
-    colors: &mut [u16],
-    cache: &mut [u16],
-    flags: &mut [u8],
-    map: &mut [u8],
-)
-    requires small { Small h × (at < 1000000000) }
-    requires in_bounds { (8 ≤ length colors.old) × (64 ≤ length cache.old) × (64 ≤ length flags.old) × (4096 ≤ length map.old) }
-    ensures colors_after { colors.new ≡ written colors.old 0 (cut 65535 (palette_at s.now at h).colors) }
-    ensures cache_after { cache.new ≡ written cache.old 0 (cut 65535 (cache_at s.now at h)) }
-    ensures flags_after { flags.new ≡ written flags.old 0 (cut 255 (palette_at s.now at h).flags) }
-    ensures map_after { map.new ≡ written map.old 0 (cut 255 (palette_at s.now at h).map) }
+fn read_body(s: &[u8], at: usize, h: Header, numbers: &mut Numbers)
+    requires { Small h × (at < 1000000000) }
+    ensures colors { numbers.new.colors ≡ written numbers.old.colors 0 (cut 65535 (palette_at s.now at h).colors) }
+    ensures cache { numbers.new.cache ≡ written numbers.old.cache 0 (cut 65535 (cache_at s.now at h)) }
+    ensures flags { numbers.new.flags ≡ written numbers.old.flags 0 (cut 255 (palette_at s.now at h).flags) }
+    ensures map { numbers.new.map ≡ written numbers.old.map 0 (cut 255 (palette_at s.now at h).map) }
 {
     let p = places_of(h, at);
-    fields::read16(s, p.colors, h.n, colors);
-    fields::read16(s, p.cache, h.cached, cache);
-    fields::read8(s, p.flags, lines_in(h), flags, 0);
-    fields::read_rows(s, p.rows, h.width, h.height, map);
+    fields::read_line(s, p.colors, h.n, &mut numbers.colors, 0);
+    fields::read_line(s, p.cache, h.cached, &mut numbers.cache, 0);
+    fields::read_line(s, p.flags, lines_in(h), &mut numbers.flags, 0);
+    fields::read_rows(s, p.rows, h.width, h.height, &mut numbers.map);
 }
 
 // The palette at a place: its header and, where the text is in form, its numbers.
-pub fn read_palette(
-    s: &[u8],
-    at: usize,
-    colors: &mut [u16],
-    cache: &mut [u16],
-    flags: &mut [u8],
-    map: &mut [u8],
-) -> Header
-    requires at_bound { at < 1000000000 }
-    requires in_bounds { (8 ≤ length colors.old) × (64 ≤ length cache.old) × (64 ≤ length flags.old) × (4096 ≤ length map.old) }
-    ensures value { (result ≡ read_header s.now at) × Small result }
-    ensures colors_after { colors.new ≡ cond (eqb result.number 0)
-        (written colors.old 0 (cut 65535 (palette_at s.now at result).colors)) colors.old }
-    ensures cache_after { cache.new ≡ cond (eqb result.number 0)
-        (written cache.old 0 (cut 65535 (cache_at s.now at result))) cache.old }
-    ensures flags_after { flags.new ≡ cond (eqb result.number 0)
-        (written flags.old 0 (cut 255 (palette_at s.now at result).flags)) flags.old }
-    ensures map_after { map.new ≡ cond (eqb result.number 0)
-        (written map.old 0 (cut 255 (palette_at s.now at result).map)) map.old }
+pub fn read_palette(s: &[u8], at: usize, numbers: &mut Numbers) -> Result<Header, Refusal>
+    requires { at < 1000000000 }
+    ensures value { number result ≡ text_number s.now at }
+    ensures header { IfOk result (λ h. (h ≡ header_at s.now at) × Small h) }
+    ensures colors { IfOk result (λ h. numbers.new.colors ≡ written numbers.old.colors 0 (cut 65535 (palette_at s.now at h).colors)) }
+    ensures cache { IfOk result (λ h. numbers.new.cache ≡ written numbers.old.cache 0 (cut 65535 (cache_at s.now at h))) }
+    ensures flags { IfOk result (λ h. numbers.new.flags ≡ written numbers.old.flags 0 (cut 255 (palette_at s.now at h).flags)) }
+    ensures map { IfOk result (λ h. numbers.new.map ≡ written numbers.old.map 0 (cut 255 (palette_at s.now at h).map)) }
+    ensures refused { OnErr result (numbers.new ≡ numbers.old) }
 {
     let h = read_header(s, at);
-    let number = text_number(s, at, h);
-    if number != 0 {
-        return refuse(number);
-    }
-    read_body(s, at, h, colors, cache, flags, map);
-    h
+    text_fault(s, at, h)?;
+    read_body(s, at, h, numbers);
+    Ok(h)
 }

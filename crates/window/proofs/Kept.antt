@@ -22,12 +22,15 @@ lent (suc at) (suc end) (x ∷ xs) h =
     let e : suc end - suc at ≡ end - at = omega arith in
     rw e (lent at end xs (omega arith))
 
+pub length_moved : (at end : ℕ) (l : List ℕ) → at ≤ end → end ≤ length l → length (drop at (take end l)) ≡ end - at
+length_moved at end l h k = simp length-drop (omega (arith, length-take-le end l k))
+
 module _ (w : Window) (old : List ℕ) (i : Inside w old) where
   abbrev count : ℕ
   count = w.end - w.at
 
   pub length_view : length (view w old) ≡ count
-  length_view = simp length-drop (omega (arith, length-take-le w.end old i.end, i.order))
+  length_view = length_moved w.at w.end old i.order i.end
 
   -- moved to the front, with something else behind it
   pub front_kept : (moved behind : List ℕ) (m : ℕ) → m ≡ count → moved ≡ written old 0 (view w old)

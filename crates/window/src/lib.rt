@@ -11,7 +11,7 @@ use std::io;
 use std::io::Read;
 
 // The bytes from `at` up to `end` are before the program, and there may be more while `more`.
-#[derive(Drop)]
+#[derive(Clone, Copy)]
 pub struct Window {
     pub at: usize,
     pub end: usize,
@@ -35,11 +35,8 @@ fn move_down(buf: &mut [u8], at: usize, end: usize) -> usize
     ensures value { result ≡ end - at }
     ensures buf_after { buf.new ≡ written buf.old 0 (drop at (take end buf.old)) }
 {
-    let count = end - at;
-    for i in 0..count {
-        buf[i] = buf[at + i];
-    }
-    count
+    buf.copy_within(at..end, 0);
+    end - at
 }
 
 // Moves what is before the program to the front and reads behind it; returns how many bytes are then there. An error too

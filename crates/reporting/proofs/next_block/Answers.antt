@@ -8,7 +8,7 @@ use Rattle.reporting.proofs.next_block.Goals as goal
 pub returns-then-p-eq9999 : goal.returns-then-p-eq9999
 returns-then-p-eq9999 c =
     let start = c.args in
-    let e = c.refuse.ensures in (
+    let e = rw c.number.ensures at c.refuse.ensures in (
       e ∙ one_too_many start.p start.s.now c.if-p-eq9999.true,
       subst (λ (b : Block). Few b) (sym e) (refused_few 19 0),
     )

@@ -1,4 +1,4 @@
-use mathlib.Core.Path.{◌≡◌, sym}
+use mathlib.Core.Path.{◌≡◌, sym, ◌∙◌}
 use mathlib.Core.Bool.{true, false, ◌||◌}
 use lib.Dec.{eqb}
 use Rattle.respond.specs.Number.{answer_number}
@@ -16,4 +16,4 @@ unfolding answer_number
 returns c =
     let a = c.args in
     let other : eqb a.b.taken 0 || eqb a.b.taken a.long ≡ false = c.if-b-long.false in
-    sym (simp other)
+    c.number.ensures ∙ sym (simp other)

@@ -6,10 +6,10 @@ pub returns : goal.returns
 unfolding header_at
 returns c =
     rw (
-      c.number_at-width.ensures,
-      c.number_at-height.ensures,
-      c.number_at-n.ensures,
-      c.number_at-bd.ensures,
-      c.number_at-transposed.ensures,
-      c.number_at-cached.ensures,
+      c.number_at.ensures,
+      c.number_at-2.ensures,
+      c.number_at-3.ensures,
+      c.number_at-4.ensures,
+      c.number_at-5.ensures,
+      c.number_at-6.ensures,
     ) refl

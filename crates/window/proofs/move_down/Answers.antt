@@ -1,24 +1,17 @@
-use Rattle.std.proofs.Common.{◌≡◌, ◌+◌, ◌∙◌, get_or, get_or-set_other, arith}
-use Rattle.lists.specs.Written.{written}
-use Rattle.lists.proofs.Rest.{next, done}
+use Rattle.std.proofs.Common.{◌≡◌, ℕ, ◌-◌, ◌≤◌, List, length, drop, take, sym, ap, ◌∙◌, arith}
+use native.Mathlib.Nat.{zero-add}
+use Rattle.lists.specs.Written.{written, front}
+use Rattle.lists.proofs.Written.{written_front}
+use Rattle.window.proofs.Kept.{lent, length_moved}
 use Rattle.window.proofs.move_down.Goals as goal
 
-pub loop-i-preserved : goal.loop-i-preserved
-unfolding written
-loop-i-preserved c =
-    let l = c.loop-i in
-    let a = c.args in
-    let q : a.at + (l.i + 1) ≡ a.at + l.i + 1 = omega arith in
-    let turn = next a.end a.buf.now c.requires.1 (a.at + l.i) (omega arith) in
-    record {
-      rest = λ j h. get_or-set_other l.buf l.i j (get_or l.buf (a.at + l.i) 0) 0 (λ e. omega arith) ∙ l.invariant.rest j (omega arith);
-      whole = rw (l.invariant.rest (a.at + l.i) (omega arith), q) (rw turn at l.invariant.whole);
-    }
-
 pub returns-clause-buf_after : goal.returns-clause-buf_after
-unfolding written
+unfolding front
 returns-clause-buf_after c =
-    let l = c.loop-i in
     let a = c.args in
-    let ended = done a.end a.buf.now c.requires.1 (a.at + l.i) (omega arith) in
-    rw ended at l.invariant.whole
+    let buf = a.buf.now in
+    let vs = drop a.at (take a.end buf) in
+    let long = length_moved a.at a.end buf c.requires.0 c.requires.1 in
+    let fits : length vs ≤ length buf = omega (arith, long, c.requires) in
+    let whole = sym (written_front buf vs fits) in
+    c.copy_within.ensures.after ∙ rw (lent a.at a.end buf c.requires.0, zero-add) (rw long at whole)

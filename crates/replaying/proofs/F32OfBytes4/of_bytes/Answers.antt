@@ -5,7 +5,7 @@ use lib.Dec.{T}
 use lib.Ieee.{binary32}
 use lib.Ieee.Bits.{nan_bits_above}
 use borrow.Author.Tests.{le-ltb}
-use Rattle.replaying.proofs.float_of.Goals as goal
+use Rattle.replaying.proofs.F32OfBytes4.of_bytes.Goals as goal
 
 pub float_from_bits-result : goal.float_from_bits-result
 float_from_bits-result c =
