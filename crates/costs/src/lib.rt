@@ -91,6 +91,7 @@ fn chance(row: &[u16], s: usize) -> u16
 }
 
 // The cost of symbol s of a row; unused ones cost 0.
+#[tactic(auto, unfolding(crate::specs::Costs::cost_in))]
 fn cost_in(row: &[u16], s: usize) -> f32
     ensures { result ≡ cost_in row.now s }
 {
@@ -110,6 +111,7 @@ fn put_costs(row: &[u16], costs: &mut [f32])
 }
 
 // Row r: mode, size, one for each of four line contexts, then one for each of five contexts for each n from 2.
+#[tactic(auto, unfolding(crate::specs::Rows::row_at))]
 fn row_at(r: usize) -> Row
     requires { r < 41 }
     ensures row { result ≡ row_at r }
@@ -198,6 +200,7 @@ fn rows_ok(table: &[u16]) -> bool
 }
 
 // The costs of an adapted table, or of the default one where none is lent.
+#[tactic(auto, unfolding(crate::specs::Costs::costs_number))]
 fn costs_of(adapted: &[u16]) -> Result<[f32; 301], Refusal>
     ensures refused { number result ≡ costs_number adapted.now }
     ensures made { IfOk result (λ costs. costs ≡ table_costs (table_of adapted.now defaults)) }

@@ -10,7 +10,8 @@ ghost use Rattle.literals.specs.Literals.{levels_ok, largest_step, step_bits, cu
 use context::Level;
 
 // A call word: its kind, and two numbers.
-// Stays (1): a kind is a number, since `reader::next` looks for a word of any kind below 128.
+// Stays (1): a kind is a number, since `reader` looks for words of any kind below 128, and an enum would ask more of it.
+#[tactic(auto, unfolding(crate::specs::Words::word))]
 pub fn call(kind: u32, first: u32, second: u32) -> u32
     requires { (kind < 128) × (first < 256) × (second < 65536) }
     ensures { result ≡ word kind first second }
@@ -19,6 +20,9 @@ pub fn call(kind: u32, first: u32, second: u32) -> u32
 }
 
 // Stores a word at a place, and returns the next place.
+// Stays (5): a lent buffer and a place in it are two arguments, here and in `emit`; a struct around the borrow would put both
+// behind one more name in each contract.
+#[tactic(auto, unfolding(lists::specs::Written::written))]
 pub fn put(out: &mut [u32], at: usize, word: u32) -> usize
     requires { at < length out.old }
     ensures { (result ≡ at + 1) × (out.new ≡ written out.old at (word ∷ [])) }
@@ -44,6 +48,7 @@ pub fn top_level(bd: u32) -> Level
 }
 
 // The width after a step: what is left above the level reached cuts it.
+#[tactic(auto, unfolding(crate::specs::Literals::cut_bits))]
 pub fn cut_bits(bd: u32, b: u32, level: Level) -> u32
     requires { (bd ≤ 12) × (level.0 ≤ 2 ^ bd - 1) }
     ensures { result ≡ cut_bits bd b level.0 }
