@@ -8,7 +8,7 @@ ghost use Rattle.reader.specs.Steps.{told, left};
 use refusals::Refusal;
 
 // After a refusal the place is of no account.
-#[derive(Drop)]
+#[derive(Clone, Copy)]
 pub struct Reading<'a> {
     pub words: &'a [u32],
     pub at: usize,

@@ -1,24 +1,55 @@
 -- The numbers of a reading, one by one, and what `read` answers for each. Assumes nothing.
-use mathlib.Core.Path.{◌≡◌, refl, ap, ◌∙◌}
+use mathlib.Core.Path.{◌≡◌, refl, sym, ap, ◌∙◌}
 use mathlib.Core.Bool.{Bool, true, false, cond}
 use mathlib.Core.List.{List}
 use Prim.Native.Nat.{ℕ, ◌*◌, ◌<◌, ◌≤◌, max}
 use native.Mathlib.Omega.{arith}
-use lib.Dec.{leb}
-use lib.ListN.{length, take, drop_of_length-le}
+use lib.Dec.{eqb, leb}
+use lib.ListN.{length, take, drop, drop_of_length-le}
 use lib.Seq.{drop-cons, take_all}
-use borrow.Author.Tests.{eq-eqb, ne_eqb, leb-true}
+use Rattle.std.specs.Prelude.{Result, Ok, Err, IsErrAnd}
+use borrow.Author.Tests.{leb-true}
 use Rattle.lists.specs.Written.{front, written}
 use Rattle.lists.proofs.Written.{written_front}
 use Rattle.lists.proofs.Choice.{held, and_l, and_r}
 use Rattle.lists.proofs.Counted.{within_at}
 use Rattle.accept.specs.Palette as rules
 use Rattle.accept.specs.Accepted.{sides_ok, depth_ok, cache_ok}
-use Rattle.accept.specs.Answer.{rooms_ok}
+use Rattle.accept.specs.Answer.{rooms_ok, refused_by}
 use Rattle.accept.specs.declared.Palette.{Palette}
 use Rattle.accept.proofs.Accepted.{sides_at}
-use Rattle.reader.specs.Steps.{told}
-use Rattle.reader.specs.declared.Place.{Place}
+use Rattle.refusals.specs.declared.Refusal.{Refusal}
+use Rattle.refusals.specs.declared.Refusal.TheVariants.{
+  Side,
+  Depth,
+  SampleCount,
+  Lambda,
+  Costs,
+  Sample,
+  Room,
+  Small,
+  OneLevel,
+  ManyLevels,
+  Colors,
+  Orientation,
+  Cache,
+  Lengths,
+  Map,
+  WordRoom,
+  Text,
+  Context,
+  BlockCount,
+  ListEnd,
+  Word,
+  WordsLeft,
+  NotListed,
+  AdaptedLength,
+  AdaptedRows,
+}
+use Rattle.refusals.specs.Numbers.{number_of}
+use Rattle.reader.specs.Reader.{Got, got, fault}
+use Rattle.reading.specs.Steps.{outcome, answer_of}
+use Rattle.reading.specs.declared.Head.{Head}
 use Rattle.reading.specs.Reading.{read_palette, relists, Outcome, back, refused, judge, limits, reading, answer, Reads}
 
 -- ---- the answers
@@ -30,41 +61,83 @@ pub reads_back : (o : Outcome) (p : rules.Palette) (r : Palette) (m m' f f' : Li
     → m' ≡ front p.map m → f' ≡ front p.flags f → Reads o m m' f f' r
 reads_back o p r m m' f f' e a x y = rw e (record { answered = a; map = x; flags = y })
 
+-- a refusal passed on
+pub outcome_err : (b : Head) (cells lines : List ℕ) (o : Outcome) (r : Result (Unit {0}) Refusal) (e : Refusal) → IsErrAnd r (λ x. x ≡ e)
+    → o ≡ refused (number_of e) → o ≡ outcome b cells lines r
+outcome_err b cells lines o (Ok u) e h k = absurd h
+outcome_err b cells lines o (Err x) e h k = k ∙ ap (λ (y : Refusal). refused (number_of y)) (sym h)
+
+pub reads_err : (o : Outcome) (m f : List ℕ) (r : Result Palette Refusal) (e : Refusal) → IsErrAnd r (λ x. x ≡ e)
+    → o ≡ refused (number_of e) → Reads o m m f f (answer_of r)
+reads_err o m f (Ok p) e h k = absurd h
+reads_err o m f (Err x) e h k = reads_refused o (number_of e) (refused_by (number_of x)) m f k (ap (λ (y : Refusal). refused_by (number_of y)) h)
+
+-- no refusal has the number 0
+refusal_some : (e : Refusal) → eqb (number_of e) 0 ≡ false
+refusal_some = elim [
+  | Side ↦ refl
+  | Depth ↦ refl
+  | SampleCount ↦ refl
+  | Lambda ↦ refl
+  | Costs ↦ refl
+  | Sample ↦ refl
+  | Room ↦ refl
+  | Small ↦ refl
+  | OneLevel ↦ refl
+  | ManyLevels ↦ refl
+  | Colors ↦ refl
+  | Orientation ↦ refl
+  | Cache ↦ refl
+  | Lengths ↦ refl
+  | Map ↦ refl
+  | WordRoom ↦ refl
+  | Text ↦ refl
+  | Context ↦ refl
+  | BlockCount ↦ refl
+  | ListEnd ↦ refl
+  | Word ↦ refl
+  | WordsLeft ↦ refl
+  | NotListed ↦ refl
+  | AdaptedLength ↦ refl
+  | AdaptedRows ↦ refl
+]
+
 -- ---- the numbers
 
 module _ (w h bd : ℕ) (cache : List ℕ) (cells lines : ℕ) (ws : List ℕ) where
-  pub limited : (k : ℕ) → k ≡ limits w h bd (length cache) cells lines → (k ≡ 0 → ⊥) → reading w h bd cache cells lines ws ≡ refused k
+  pub limited : (e : Refusal) → number_of e ≡ limits w h bd (length cache) cells lines → reading w h bd cache cells lines ws ≡ refused (number_of e)
   unfolding reading
-  limited k e h = rw (← e, ne_eqb k 0 h) refl
+  limited e k = rw (← k, refusal_some e) refl
 
-  module _ (passed : limits w h bd (length cache) cells lines ≡ 0) (p : rules.Palette) (place : Place)
-      (e : read_palette w h bd cache ws ≡ told place p ws) where
-    judged : reading w h bd cache cells lines ws ≡ judge w h bd cache ws (told place p ws)
-    unfolding reading
-    judged = rw (passed, e) refl
+  pub passed_on : limits w h bd (length cache) cells lines ≡ 0 → reading w h bd cache cells lines ws ≡ judge w h bd cache ws (read_palette w h bd cache ws)
+  unfolding reading
+  passed_on passed = rw passed refl
 
-    pub settled_fault : (place.fault ≡ 0 → ⊥) → reading w h bd cache cells lines ws ≡ refused place.fault
-    unfolding judge told
-    settled_fault h = judged ∙ rw (ne_eqb place.fault 0 h) refl
+-- ---- what a reading to its end is judged
 
-    pub settled_more : place.fault ≡ 0 → place.at < length ws → reading w h bd cache cells lines ws ≡ refused 22
-    unfolding judge told
-    settled_more h k = judged ∙ rw (eq-eqb place.fault 0 h, drop-cons ws place.at 0 k) refl
+module _ (w h bd : ℕ) (cache ws : List ℕ) (g : Got rules.Palette) (e : read_palette w h bd cache ws ≡ g) where
+  judged_as : judge w h bd cache ws (read_palette w h bd cache ws) ≡ judge w h bd cache ws g
+  judged_as = ap (judge w h bd cache ws) e
 
-    settled : (b : Bool) → place.fault ≡ 0 → length ws ≤ place.at → relists w h bd cache p ws ≡ b
-        → reading w h bd cache cells lines ws ≡ cond b (back p) (refused 23)
-    unfolding judge told
-    settled b h k r = judged ∙ rw (eq-eqb place.fault 0 h, drop_of_length-le ws {i = place.at} k, r) refl
+pub judged_fault : (w h bd : ℕ) (cache ws : List ℕ) (k : ℕ) → read_palette w h bd cache ws ≡ fault k
+    → judge w h bd cache ws (read_palette w h bd cache ws) ≡ refused k
+unfolding judge
+judged_fault w h bd cache ws k e = judged_as w h bd cache ws (fault k) e
 
-    pub settled_other : place.fault ≡ 0 → length ws ≤ place.at → relists w h bd cache p ws ≡ false → reading w h bd cache cells lines ws ≡ refused 23
-    settled_other = settled false
+module _ (w h bd : ℕ) (cache ws : List ℕ) (p : rules.Palette) (at : ℕ) (vs : List ℕ) (e : read_palette w h bd cache ws ≡ got p (drop at vs)) where
+  pub judged_more : at < length vs → judge w h bd cache ws (read_palette w h bd cache ws) ≡ refused 22
+  unfolding judge
+  judged_more k = judged_as w h bd cache ws (got p (drop at vs)) e ∙ rw (drop-cons vs at 0 k) refl
 
-    pub settled_back : place.fault ≡ 0 → length ws ≤ place.at → relists w h bd cache p ws ≡ true → reading w h bd cache cells lines ws ≡ back p
-    settled_back = settled true
+  pub judged_whole : length vs ≤ at → (b : Bool) → b ≡ relists w h bd cache p ws
+      → judge w h bd cache ws (read_palette w h bd cache ws) ≡ cond b (back p) (refused 23)
+  unfolding judge
+  judged_whole k b r = judged_as w h bd cache ws (got p (drop at vs)) e ∙ rw (drop_of_length-le vs {i = at} k, r) refl
 
 -- ---- what the limits say
 
 pub record Sizes (w h bd cached cells lines : ℕ) : Type 0 where
+  pub inside : sides_ok w h ≡ true
   pub sides : ((1 ≤ w) × (w ≤ 64)) × ((1 ≤ h) × (h ≤ 64))
   pub deep : (8 ≤ bd) × (bd ≤ 12)
   pub room : w * h ≤ cells
@@ -78,6 +151,7 @@ sizes w h bd cached cells lines e =
     let k = held (cache_ok cached) 12 _ d.1 in
     let r = held (rooms_ok w h cells lines) 6 _ k.1 in
     record {
+      inside = s.0;
       sides = sides_at w h s.0;
       deep = within_at 8 12 bd d.0;
       room = leb-true (w * h) cells (and_l (leb (w * h) cells) (leb (max w h) lines) r.0);

@@ -1,11 +1,12 @@
 -- The list made again. Assumes nothing.
 use mathlib.Core.Path.{◌≡◌, refl, sym, ap, ◌∙◌}
-use mathlib.Core.Bool.{Bool, true, false, cond}
-use mathlib.Core.List.{List, ◌++◌}
+use mathlib.Core.Bool.{Bool, true, false, cond, ◌&&◌}
+use mathlib.Core.List.{List, [], ◌∷◌, ◌++◌}
 use Prim.Native.Nat.{ℕ, ◌≤◌}
 use native.Mathlib.Omega.{arith}
 use lib.Dec.{eqb, leb}
 use lib.ListN.{length, take, drop}
+use lib.Pointwise.{pointwise}
 use lib.Seq.{take_at}
 use borrow.Author.Tests.{eq-eqb, ne_eqb, le-leb, eqb-true}
 use Rattle.lists.specs.Same.{same_list}
@@ -17,6 +18,14 @@ use Rattle.listing.specs.Listing.{call_list, list_number, Lists}
 use Rattle.listing.specs.declared.Listed.{Listed}
 use Rattle.listing.proofs.Length.{list_few}
 use Rattle.reading.specs.Reading.{relists}
+
+-- two slices compared
+pub same_compared : (xs ys : List ℕ) → pointwise eqb xs ys ≡ same_list xs ys
+unfolding same_list
+same_compared [] [] = refl
+same_compared [] (y ∷ ys) = refl
+same_compared (x ∷ xs) [] = refl
+same_compared (x ∷ xs) (y ∷ ys) = ap (λ (b : Bool). eqb x y && b) (same_compared xs ys)
 
 module _ (w h bd : ℕ) (cache : List ℕ) (p : Palette) (before after' : List ℕ) (r : Listed) (l : Lists w h bd cache p before after' r)
     (room : 4234 ≤ length before) (ws : List ℕ) where

@@ -10,8 +10,7 @@ use Rattle.accept.specs.Answer.{rooms_ok, uncounted, refused_by}
 use Rattle.accept.specs.declared.Palette.{Palette}
 use Rattle.listing.specs.Listing.{call_list}
 use Rattle.reader.specs.Reader.{Got, got, fault, Reader, ◌>>=◌, ret, due}
-use Rattle.read_colors.specs.Colors.{read_colors}
-use Rattle.read_colors.specs.Held.{in_eight}
+use Rattle.read_colors.specs.Colors.{read_colors, in_eight}
 use Rattle.read_map.specs.Map.{Lines, read_lines}
 
 -- the orientation bit, where it is sent; else plain

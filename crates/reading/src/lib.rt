@@ -1,274 +1,245 @@
 // A call list read back. `read` answers for all arguments; the others serve it.
 #![tactic(auto)]
 
-ghost use Rattle.std.specs.Prelude.{◌≡◌, ◌*◌, ◌≤◌, eqb, length, take, drop, replicate};
+ghost use Rattle.std.specs.Prelude.{◌≡◌, ◌*◌, ◌≤◌, max, length};
 ghost use Rattle.lists.specs.Written.{front};
-ghost use Rattle.lists.specs.Same.{same_list};
-ghost use Rattle.rows.specs.Rows.{order_table, code_table};
-ghost use Rattle.scan.specs.Scan.{scan_of};
-ghost use Rattle.accept.specs.Palette.{palette_of};
 ghost use Rattle.accept.specs.Answer.{uncounted};
-ghost use Rattle.reader.specs.Steps.{told};
+ghost use Rattle.refusals.specs.Numbers.{number};
+ghost use Rattle.reader.specs.Steps.{told, left};
 ghost use Rattle.reading.specs.Reading.{read_orient, relists, limits, reading, Reads};
-ghost use Rattle.reading.specs.Steps.{Headed};
+ghost use Rattle.reading.specs.Steps.{Headed, Room, Blank, palette_in, judged, outcome, answer_of};
 
 use accept::Palette;
-use reader::{Place, Taken, take};
+use read_colors::Held;
+use read_map::Plan;
+use reader::Reading;
+use refusals::Refusal;
+use rows::{Nexts, Tables};
+use scan::Scan;
 
-// What is known ahead of the map: the block, its colours and orientation, and the place reached in the list.
-#[derive(Clone, Copy)]
-struct Head {
+// What is known ahead of the map: the block, the whole list and what is left of it, colours and orientation.
+#[derive(Drop)]
+struct Head<'a> {
     pub width: usize,
     pub height: usize,
     pub bd: u32,
-    pub n: usize,
-    pub colors: [u16; 8],
+    pub cache: &'a [u16],
+    pub words: &'a [u32],
+    pub reading: Reading<'a>,
+    pub held: Held,
     pub transposed: bool,
-    pub at: usize,
 }
 
-// The orientation bit, where it is sent; else 0, plain.
-fn read_orient(words: &[u32], at: usize, w: usize, h: usize) -> Taken
-    ensures { read_orient w h (drop at words.now) ≡ told result.place (eqb result.second 1) words.now }
+// The orientation bit, where it is sent; else plain.
+fn read_orient(words: &mut Reading, w: usize, h: usize) -> Result<bool, Refusal>
+    ensures { read_orient w h (left words.old) ≡ told (λ transposed. transposed) result (left words.new) }
 {
-    if counts::orient_sent(w, h) {
-        return take(words, at, 1, 1, 2);
+    if !counts::orient_sent(w, h) {
+        return Ok(false);
     }
-    Taken {
-        second: 0,
-        place: Place { at, fault: 0 },
-    }
+    let bit = words.take(1, 1, 2)?;
+    Ok(bit == 1)
 }
 
-// Whether the first `count` words are the whole list.
-fn same_words(aside: &[u32], count: usize, words: &[u32]) -> bool
-    requires { count ≤ length aside.now }
-    ensures { result ≡ same_list (take count aside.now) words.now }
-{
-    if count != words.len() {
-        return false;
-    }
-    let mut same = true;
-    let mut i: usize = 0;
-    while i < count {
-        same = same & (aside[i] == words[i]);
-        i += 1;
-    }
-    same
-}
-
-// The numbers 1, 2, 13 and 7, or 0.
-fn limits(width: usize, height: usize, bd: u32, cached: usize, cells: usize, lines: usize) -> u32
-    ensures { result ≡ limits width height bd cached cells lines }
+// The refusals 1, 2, 13 and 7.
+fn limits(
+    width: usize,
+    height: usize,
+    bd: u32,
+    cached: usize,
+    cells: usize,
+    lines: usize,
+) -> Result<(), Refusal>
+    ensures { number result ≡ limits width height bd cached cells lines }
 {
     if !accept::sides_ok(width, height) {
-        return 1;
+        return Err(Refusal::Side);
     }
     if !accept::within(8, 12, bd as usize) {
-        return 2;
+        return Err(Refusal::Depth);
     }
     if 64 < cached {
-        return 13;
+        return Err(Refusal::Cache);
     }
     if !accept::rooms_ok(width, height, cells, lines) {
-        return 7;
+        return Err(Refusal::Room);
     }
-    0
+    Ok(())
 }
 
-// Whether the listing accepts the palette, and would write that list.
-fn relists(
-    b: Head,
-    map: &[u8],
-    flags: &[u8],
-    cache: &[u16],
-    words: &[u32],
-    aside: &mut [u32],
-) -> bool
+// Whether the listing accepts the palette, and would write the list.
+fn relists(b: &Head, cells: &[u8], lines: &[u8], aside: &mut [u32]) -> bool
     requires { 4234 ≤ length aside.old }
-    ensures { result ≡ relists b.width b.height b.bd cache.now
-        (palette_of b.colors b.n b.transposed map.now flags.now) words.now }
+    ensures { result ≡ relists b.now.width b.now.height b.now.bd b.now.cache.now
+        (palette_in b.now cells.now lines.now) b.now.words.now }
 {
-    let colors = b.colors;
     let listed = listing::list(
         b.width,
         b.height,
         b.bd,
-        colors,
-        b.n,
+        b.held.colors,
+        b.held.count,
         b.transposed,
-        map,
-        flags,
-        cache,
+        cells,
+        lines,
+        b.cache,
         aside,
     );
     if listed.number != 0 {
         return false;
     }
-    same_words(aside, listed.count, words)
+    &aside[..listed.count] == b.words
+}
+
+// Reads the lines behind the head, into cells and lines; what is read to its end has to be listed again.
+fn read_rest(
+    b: &Head,
+    cells: &mut [u8],
+    lines: &mut [u8],
+    aside: &mut [u32],
+    tables: &Tables,
+) -> Result<(), Refusal>
+    requires headed { Headed b.now }
+    requires blank { Blank b.now cells.old lines.old }
+    requires room { 4234 ≤ length aside.old }
+    ensures { judged b.now ≡ outcome b.now cells.new lines.new result }
+{
+    let plan = Plan {
+        scan: Scan::new(b.width, b.height, b.transposed),
+        n: b.held.count,
+        tables,
+    };
+    let mut reading = b.reading;
+    plan.read_lines(&mut reading, cells, lines)?;
+    if reading.at < reading.words.len() {
+        return Err(Refusal::WordsLeft);
+    }
+    if !relists(b, cells, lines, aside) {
+        return Err(Refusal::NotListed);
+    }
+    Ok(())
+}
+
+// Reads word by word, over what a guess has left in cells and lines.
+fn read_words(
+    b: &Head,
+    cells: &mut [u8],
+    lines: &mut [u8],
+    aside: &mut [u32],
+) -> Result<(), Refusal>
+    requires headed { Headed b.now }
+    requires room { Room b.now cells.old lines.old aside.old }
+    ensures { judged b.now ≡ outcome b.now cells.new lines.new result }
+{
+    cells.fill(0);
+    lines.fill(0);
+    read_rest(b, cells, lines, aside, &Tables::new())
+}
+
+// What is guessed and listed to the same words is what the list says; only a list that is not is read word by word, for its
+// number.
+fn read_guessed(
+    b: &Head,
+    cells: &mut [u8],
+    lines: &mut [u8],
+    aside: &mut [u32],
+    nexts: &Nexts,
+) -> Result<(), Refusal>
+    requires headed { Headed b.now }
+    requires blank { Blank b.now cells.old lines.old }
+    requires room { 4234 ≤ length aside.old }
+    ensures { judged b.now ≡ outcome b.now cells.new lines.new result }
+{
+    let s = Scan::new(b.width, b.height, b.transposed);
+    guess_map::guess_lines(b.reading.words, b.reading.at, cells, lines, s, nexts);
+    let listed = relists(b, cells, lines, aside);
+    if !listed {
+        return read_words(b, cells, lines, aside);
+    }
+    Ok(())
 }
 
 // Writes what was read, and answers with the palette.
-fn deliver(b: Head, cells: &[u8], lines: &[u8], map: &mut [u8], flags: &mut [u8]) -> Palette
+fn deliver(b: &Head, cells: &[u8], lines: &[u8], map: &mut [u8], flags: &mut [u8]) -> Palette
     requires { (length cells.now ≤ length map.old) × (length lines.now ≤ length flags.old) }
-    ensures map_after { (map.new ≡ front cells.now map.old)
-        × (flags.new ≡ front lines.now flags.old) }
-    ensures value { result ≡ uncounted 0 b.n b.colors b.transposed }
+    ensures map_after { (map.new ≡ front cells.now map.old) × (flags.new ≡ front lines.now flags.old) }
+    ensures value { result ≡ uncounted 0 b.now.held.count b.now.held.colors b.now.transposed }
 {
-    lists::copy_bytes(cells, cells.len(), map);
-    lists::copy_bytes(lines, lines.len(), flags);
-    let colors = b.colors;
+    lists::copy_front(cells, cells.len(), map);
+    lists::copy_front(lines, lines.len(), flags);
     Palette {
-        number: 0,
-        n: b.n,
-        colors,
+        n: b.held.count,
+        colors: b.held.colors,
         transposed: b.transposed,
-        head: 0.0,
-        map_bits: 0.0,
+        ..accept::blank()
     }
 }
 
-// Reads the lines behind the head, into cells and lines; what is read to its end and would be listed again is given back.
-fn read_rest(
-    b: Head,
-    cache: &[u16],
-    words: &[u32],
-    cells: &mut [u8],
-    lines: &mut [u8],
-    aside: &mut [u32],
-    map: &mut [u8],
-    flags: &mut [u8],
-    orders: &[u8; 4096],
-    codes: &[u8; 4096],
-) -> Palette
-    requires headed { Headed b cache.now words.now (length map.old) (length flags.old) }
-    requires cells_value { (cells.old ≡ replicate (b.width * b.height) 0) × (lines.old ≡ replicate (scan_of b.width b.height b.transposed).lines 0)
-        × (4234 ≤ length aside.old) × (orders.now ≡ order_table) × (codes.now ≡ code_table) }
-    ensures { Reads
-        (reading b.width b.height b.bd cache.now (length map.old) (length flags.old) words.now)
-        map.old map.new flags.old flags.new result }
-{
-    let s = scan::scan_of(b.width, b.height, b.transposed);
-    let place = read_map::read_lines(words, b.at, cells, lines, s, b.n, orders, codes);
-    if place.fault != 0 {
-        return accept::refuse(place.fault);
-    }
-    if place.at < words.len() {
-        return accept::refuse(22);
-    }
-    if !relists(b, cells, lines, cache, words, aside) {
-        return accept::refuse(23);
-    }
-    deliver(b, cells, lines, map, flags)
-}
-
-// Fills with zeros.
-fn clear(bytes: &mut [u8])
-    ensures { bytes.new ≡ replicate (length bytes.old) 0 }
-{
-    let mut i: usize = 0;
-    while i < bytes.len() {
-        bytes[i] = 0;
-        i += 1;
-    }
-}
-
-// As `read_behind`, word by word, over what a guess has left in cells and lines.
-fn read_words(
-    b: Head,
-    cache: &[u16],
-    words: &[u32],
-    cells: &mut [u8],
-    lines: &mut [u8],
-    aside: &mut [u32],
-    map: &mut [u8],
-    flags: &mut [u8],
-) -> Palette
-    requires headed { Headed b cache.now words.now (length map.old) (length flags.old) }
-    requires cells_len { (length cells.old ≡ b.width * b.height) × (length lines.old ≡ (scan_of b.width b.height b.transposed).lines)
-        × (4234 ≤ length aside.old) }
-    ensures { Reads
-        (reading b.width b.height b.bd cache.now (length map.old) (length flags.old) words.now)
-        map.old map.new flags.old flags.new result }
-{
-    clear(cells);
-    clear(lines);
-    let orders = rows::orders();
-    let codes = rows::codes();
-    read_rest(
-        b, cache, words, cells, lines, aside, map, flags, &orders, &codes,
-    )
-}
-
-// As `read_behind`, with the table and room aside lent. What is guessed and listed to the same words is what the list says; only
-// a list that is not is read word by word, for its number.
-fn read_guessed(
-    b: Head,
-    cache: &[u16],
-    words: &[u32],
-    cells: &mut [u8],
-    lines: &mut [u8],
-    aside: &mut [u32],
-    map: &mut [u8],
-    flags: &mut [u8],
-    nexts: &[u8; 8192],
-) -> Palette
-    requires headed { Headed b cache.now words.now (length map.old) (length flags.old) }
-    requires cells_value { (cells.old ≡ replicate (b.width * b.height) 0) × (lines.old ≡ replicate (scan_of b.width b.height b.transposed).lines 0)
-        × (4234 ≤ length aside.old) }
-    ensures { Reads
-        (reading b.width b.height b.bd cache.now (length map.old) (length flags.old) words.now)
-        map.old map.new flags.old flags.new result }
-{
-    let s = scan::scan_of(b.width, b.height, b.transposed);
-    guess_map::guess_lines(words, b.at, cells, lines, s, nexts);
-    let listed = relists(b, cells, lines, cache, words, aside);
-    if !listed {
-        return read_words(b, cache, words, cells, lines, aside, map, flags);
-    }
-    deliver(b, cells, lines, map, flags)
-}
-
-// As `read_behind`, with the table lent.
+// Reads the lines behind the head, with the room lent, and writes them where nothing is wrong.
 fn read_by(
-    b: Head,
-    cache: &[u16],
-    words: &[u32],
+    b: &Head,
+    cells: &mut [u8],
+    lines: &mut [u8],
     map: &mut [u8],
     flags: &mut [u8],
-    nexts: &[u8; 8192],
-) -> Palette
-    requires { Headed b cache.now words.now (length map.old) (length flags.old) }
-    ensures { Reads
-        (reading b.width b.height b.bd cache.now (length map.old) (length flags.old) words.now)
-        map.old map.new flags.old flags.new result }
+) -> Result<Palette, Refusal>
+    requires headed { Headed b.now }
+    requires blank { Blank b.now cells.old lines.old }
+    requires room { (length cells.old ≤ length map.old) × (length lines.old ≤ length flags.old) }
+    ensures { Reads (judged b.now) map.old map.new flags.old flags.new (answer_of result) }
+{
+    let mut aside = [0u32; 4234];
+    read_guessed(b, cells, lines, &mut aside, &Nexts::new())?;
+    Ok(deliver(b, cells, lines, map, flags))
+}
+
+// Reads the lines behind the head.
+fn read_behind(b: &Head, map: &mut [u8], flags: &mut [u8]) -> Result<Palette, Refusal>
+    requires headed { Headed b.now }
+    requires room { (b.now.width * b.now.height ≤ length map.old) × (max b.now.width b.now.height ≤ length flags.old) }
+    ensures { Reads (judged b.now) map.old map.new flags.old flags.new (answer_of result) }
 {
     let mut cells = [0u8; 4096];
     let mut lines = [0u8; 64];
-    let mut aside = [0u32; 4234];
     let count = context::lines_of(b.transposed, b.width, b.height);
-    read_guessed(
+    read_by(
         b,
-        cache,
-        words,
         &mut cells[..b.width * b.height],
         &mut lines[..count],
-        &mut aside,
         map,
         flags,
-        nexts,
     )
 }
 
-// As `read`, behind colours and orientation.
-fn read_behind(b: Head, cache: &[u16], words: &[u32], map: &mut [u8], flags: &mut [u8]) -> Palette
-    requires { Headed b cache.now words.now (length map.old) (length flags.old) }
+// As `read`, with a refusal as `Err`.
+fn read_into(
+    width: usize,
+    height: usize,
+    bd: u32,
+    cache: &[u16],
+    words: &[u32],
+    map: &mut [u8],
+    flags: &mut [u8],
+) -> Result<Palette, Refusal>
     ensures { Reads
-        (reading b.width b.height b.bd cache.now (length map.old) (length flags.old) words.now)
-        map.old map.new flags.old flags.new result }
+        (reading width height bd cache.now (length map.old) (length flags.old) words.now)
+        map.old map.new flags.old flags.new (answer_of result) }
 {
-    let nexts = rows::nexts();
-    read_by(b, cache, words, map, flags, &nexts)
+    limits(width, height, bd, cache.len(), map.len(), flags.len())?;
+    let mut reading = Reading { words, at: 0 };
+    let held = read_colors::read_colors(&mut reading, bd, cache)?;
+    let transposed = read_orient(&mut reading, width, height)?;
+    let b = Head {
+        width,
+        height,
+        bd,
+        cache,
+        words,
+        reading,
+        held,
+        transposed,
+    };
+    read_behind(&b, map, flags)
 }
 
 // Reads a call list back: colours and orientation are returned, map and flags written from the front; or it is refused and
@@ -286,29 +257,8 @@ pub fn read(
         (reading width height bd cache.now (length map.old) (length flags.old) words.now)
         map.old map.new flags.old flags.new result }
 {
-    let number = limits(width, height, bd, cache.len(), map.len(), flags.len());
-    if number != 0 {
-        return accept::refuse(number);
+    match read_into(width, height, bd, cache, words, map, flags) {
+        Ok(palette) => palette,
+        Err(refusal) => accept::refuse(refusal),
     }
-    let held = read_colors::read_colors(words, bd, cache);
-    let place = held.place;
-    if place.fault != 0 {
-        return accept::refuse(place.fault);
-    }
-    let turned = read_orient(words, place.at, width, height);
-    let next = turned.place;
-    if next.fault != 0 {
-        return accept::refuse(next.fault);
-    }
-    let colors = held.colors;
-    let b = Head {
-        width,
-        height,
-        bd,
-        n: held.count,
-        colors,
-        transposed: turned.second == 1,
-        at: next.at,
-    };
-    read_behind(b, cache, words, map, flags)
 }

@@ -1,13 +1,15 @@
 use mathlib.Core.Path.{sym, ◌∙◌}
+use Rattle.reader.proofs.Steps.{passed_on}
 use Rattle.reading.proofs.Ahead.{orient_told, orient_plain}
 use Rattle.reading.proofs.read_orient.Goals as goal
 
-pub returns-then-orient_sent : goal.returns-then-orient_sent
-returns-then-orient_sent c =
-    let a = c.args in
-    orient_told a.words.now a.at a.w a.h _ (sym c.orient_sent.ensures ∙ c.if-orient_sent.true) c.take.ensures
+pub returns-then-not-orient_sent : goal.returns-then-not-orient_sent
+returns-then-not-orient_sent c = orient_plain _ _ _ (sym c.orient_sent.ensures ∙ c.if-not-orient_sent.true)
+
+pub returns-in_err-bit : goal.returns-in_err-bit
+returns-in_err-bit c =
+    passed_on _ _ _ _ _ c.from_residual.ensures.1
+    (orient_told _ _ _ (sym c.orient_sent.ensures ∙ c.if-not-orient_sent.false) _ c.in_err-bit.ensures.reads)
 
 pub returns : goal.returns
-returns c =
-    let a = c.args in
-    orient_plain a.words.now a.at a.w a.h (sym c.orient_sent.ensures ∙ c.if-orient_sent.false)
+returns c = orient_told _ _ _ (sym c.orient_sent.ensures ∙ c.if-not-orient_sent.false) _ c.in_ok-bit.ensures.reads
