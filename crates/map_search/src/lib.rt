@@ -138,8 +138,7 @@ impl<'a> Search<'a> {
         let mut least = from.cost.total(lambda);
         for c in 0..self.pricing.n {
             let next = constant(dists, rates, &self.tables.codes, k, row, c);
-            let cost = next.cost;
-            let total = cost.total(lambda);
+            let total = next.cost.total(lambda);
             if total < least {
                 best = next;
                 least = total;
@@ -180,8 +179,7 @@ impl<'a> Search<'a> {
             let v = self.one_cell(map, l, a);
             let p = self.scan.place(l, a);
             map[p] = v.index;
-            let d = v.cost;
-            cost = cost + d;
+            cost = cost + v.cost;
             if cost.total(self.pricing.lambda) >= limit {
                 return cost;
             }
@@ -321,8 +319,7 @@ impl<'a> Search<'a> {
         for l in 0..self.scan.lines {
             let c = self.choose_line(map, l, ctx);
             flags[l] = c.flag;
-            let d = c.cost;
-            cost = cost + d;
+            cost = cost + c.cost;
             if cost.dist + lambda * (head + cost.rate) >= bound {
                 return None;
             }
