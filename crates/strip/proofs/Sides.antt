@@ -1,8 +1,10 @@
 -- Sides within 1..64, and what number 0 says of a strip. Assumes nothing.
-use mathlib.Core.Path.{◌≡◌, refl, ◌∙◌}
-use mathlib.Core.Bool.{true, ◌&&◌}
-use mathlib.Core.List.{List}
-use Prim.Native.Nat.{ℕ, ◌+◌, ◌*◌, ◌/◌, ◌%◌, ◌≤◌, ◌<◌}
+use mathlib.Core.Path.{◌≡◌, refl, ap, ◌∙◌}
+use mathlib.Core.Bool.{Bool, true, ◌&&◌}
+use mathlib.Core.List.{List, [], ◌∷◌}
+use Rattle.std.specs.List.{list_all}
+use Rattle.std.specs.Simd.{first_chunks}
+use Prim.Native.Nat.{ℕ, zero, suc, ◌+◌, ◌*◌, ◌/◌, ◌%◌, ◌≤◌, ◌<◌, max}
 use native.Mathlib.Nat.{mul-le-mul}
 use native.Mathlib.Omega.{arith}
 use lib.Dec.{eqb, leb}
@@ -16,6 +18,32 @@ use Rattle.strip.specs.declared.Places.{Places}
 use Rattle.strip.specs.Strip.{blocks_in, block_at, cells_at, lines_at, count_ok, strip_number}
 use Rattle.strip.specs.Steps.{places_to, Fits}
 use lib.Ieee.{Float}
+
+-- the library's word for it
+pub all_is : (f : ℕ → Bool) (xs : List ℕ) → list_all f xs ≡ all_in f xs
+unfolding all_in
+all_is f [] = refl
+all_is f (x ∷ xs) = ap (λ t. f x && t) (all_is f xs)
+
+-- of the pairs, the i-th has the sides at places 2i and 2i + 1
+pub pair_sides : (k : ℕ) (sides : List ℕ) (i : ℕ) (d : List ℕ) → i < k → 2 * k ≤ length sides
+    → (get_or (get_or (first_chunks 2 k sides) i d) 0 0 ≡ get_or sides (2 * i) 0)
+    × (get_or (get_or (first_chunks 2 k sides) i d) 1 0 ≡ get_or sides (2 * i + 1) 0)
+pair_sides zero sides i d h l = absurd (omega arith)
+pair_sides (suc k) [] i d h l = absurd (omega arith)
+pair_sides (suc k) (w ∷ []) i d h l = absurd (omega arith)
+pair_sides (suc k) (w ∷ v ∷ rest) zero d h l = (refl, refl)
+pair_sides (suc k) (w ∷ v ∷ rest) (suc i) d h l =
+    let deeper = pair_sides k rest i d (omega arith) (omega arith) in
+    let first : 2 * suc i ≡ suc (suc (2 * i)) = omega arith in
+    let second : 2 * suc i + 1 ≡ suc (suc (2 * i + 1)) = omega arith in
+    (rw first deeper.0, rw second deeper.1)
+
+-- as the code has it: the pairs that the sides were taken in
+pub pair_at : (sides : List ℕ) (pairs : List (List ℕ)) → pairs ≡ first_chunks 2 (blocks_in sides) sides → (i : ℕ) (d : List ℕ)
+    → i < blocks_in sides
+    → (get_or (get_or pairs i d) 0 0 ≡ get_or sides (2 * i) 0) × (get_or (get_or pairs i d) 1 0 ≡ get_or sides (2 * i + 1) 0)
+pair_at sides pairs is i d h = rw is (pair_sides (blocks_in sides) sides i d h (omega arith))
 
 -- a block's sides, its places, and those of the blocks before it
 pub record Within (sides : List ℕ) (i : ℕ) : Type 0 where
@@ -50,9 +78,11 @@ module _ (sides : List ℕ) (all : all_in (within 1 64) sides ≡ true) (whole :
       }
 
 -- the places with one block more
-pub places_more : (sides : List ℕ) (i : ℕ) (at next : Places) → at ≡ places_to sides i
-    → next ≡ record { cells = at.cells + cells_at sides i; lines = at.lines + lines_at sides i } → next ≡ places_to sides (i + 1)
-places_more sides i at next a n = n ∙ rw (a, total_more (cells_at sides) i, total_more (lines_at sides) i) refl
+pub places_more : (sides : List ℕ) (i width height : ℕ) (at next : Places) → at ≡ places_to sides i
+    → width ≡ get_or sides (2 * i) 0 → height ≡ get_or sides (2 * i + 1) 0
+    → next ≡ record { cells = at.cells + width * height; lines = at.lines + max width height } → next ≡ places_to sides (i + 1)
+places_more sides i width height at next a w h n =
+    n ∙ rw (a, w, h, total_more (cells_at sides) i, total_more (lines_at sides) i) refl
 
 -- what the blocks ask of sides, samples and rooms
 pub record Ready (sides : List ℕ) (samples cells lines : ℕ) : Type 0 where

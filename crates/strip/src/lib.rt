@@ -3,15 +3,20 @@
 #![tactic(auto)]
 
 ghost use Rattle.std.specs.Prelude.{◌≡◌, true, ◌+◌, ◌*◌, ◌≤◌, max, length};
+ghost use Rattle.std.specs.List.{list_all};
 ghost use Rattle.lists.specs.Counted.{within, all_in};
+ghost use Rattle.refusals.specs.Numbers.{number};
 ghost use Rattle.search.specs.Steps.{price_fault};
 ghost use Rattle.strip.specs.Strip.{blocks_in, count_ok, strip_number, Searched, Strips};
 ghost use Rattle.strip.specs.Steps.{places_to, Fits, SearchesAt};
 
 use accept::Palette;
+use refusals::Refusal;
+use search::Asked;
 use sizes::Block;
 
 // The number, and an answer for each block; those past the count are all 0.
+// Stays (1): the outward answer of `palette::search_strip`, with its number.
 #[derive(Drop)]
 pub struct Strip {
     pub number: u32,
@@ -34,34 +39,21 @@ fn count_ok(sides: usize) -> bool
 
 // Number 1: each side is within 1..64.
 fn sides_ok(sides: &[usize]) -> bool
-    ensures { result ≡ all_in (within 1 64) sides.now }
+    ensures { result ≡ list_all (within 1 64) sides.now }
 {
-    let mut ok = true;
-    let mut i: usize = 0;
-    while i < sides.len() {
-        ok = ok & accept::within(1, 64, sides[i]);
-        i += 1;
-    }
-    ok
+    sides.iter().all(|side| accept::within(1, 64, *side))
 }
 
-fn longer(width: usize, height: usize) -> usize
-    ensures { result ≡ max width height }
-{
-    if width < height {
-        return height;
-    }
-    width
-}
-
-// The places up to and with one more block: width × height, and the longer side.
-fn past(at: Places, width: usize, height: usize) -> Places
-    requires { (width ≤ 64) × (height ≤ 64) × (at.cells ≤ 262144) × (at.lines ≤ 4096) }
-    ensures { result ≡ record { cells = at.cells + width * height; lines = at.lines + max width height } }
-{
-    Places {
-        cells: at.cells + width * height,
-        lines: at.lines + longer(width, height),
+impl Places {
+    // The places up to and with one more block: width × height, and the longer side.
+    fn past(self, width: usize, height: usize) -> Places
+        requires { (width ≤ 64) × (height ≤ 64) × (self.cells ≤ 262144) × (self.lines ≤ 4096) }
+        ensures { result ≡ record { cells = self.cells + width * height; lines = self.lines + max width height } }
+    {
+        Places {
+            cells: self.cells + width * height,
+            lines: self.lines + width.max(height),
+        }
     }
 }
 
@@ -71,107 +63,103 @@ fn places_of(sides: &[usize]) -> Places
     ensures { result ≡ places_to sides.now (blocks_in sides.now) }
 {
     let mut at = Places { cells: 0, lines: 0 };
-    let mut i: usize = 0;
-    while i < sides.len() / 2 {
-        let width = sides[2 * i];
-        let height = sides[2 * i + 1];
-        at = past(at, width, height);
-        i += 1;
+    let (pairs, _) = sides.as_chunks::<2>();
+    for pair in pairs {
+        at = at.past(pair[0], pair[1]);
     }
     at
 }
 
-// The first of 19, 1, 3 and 7 that applies, or 0.
-fn fault(sides: &[usize], samples: usize, cells: usize, lines: usize) -> u32
-    ensures { result ≡ strip_number sides.now samples cells lines }
+// The first of 19, 1, 3 and 7 that applies.
+fn fault(sides: &[usize], samples: usize, cells: usize, lines: usize) -> Result<(), Refusal>
+    ensures { number result ≡ strip_number sides.now samples cells lines }
 {
     if !count_ok(sides.len()) {
-        return 19;
+        return Err(Refusal::BlockCount);
     }
     if !sides_ok(sides) {
-        return 1;
+        return Err(Refusal::Side);
     }
     let all = places_of(sides);
     if samples != all.cells {
-        return 3;
+        return Err(Refusal::SampleCount);
     }
     if cells < all.cells {
-        return 7;
+        return Err(Refusal::Room);
     }
     if lines < all.lines {
-        return 7;
+        return Err(Refusal::Room);
     }
-    0
+    Ok(())
 }
 
-// Searches one block, whose places begin at `at`.
-fn search_at(
-    samples: &[f32],
-    costs: &[f32],
-    b: Block,
-    price: u32,
-    at: Places,
-    map: &mut [u8],
-    flags: &mut [u8],
-) -> Palette
-    requires fits { Fits b at (length samples.now) (length map.old) (length flags.old) }
-    requires price_value { price ≡ price_fault b.lambda costs.now }
-    ensures { SearchesAt samples.now costs.now b at
-        map.old map.new flags.old flags.new result }
-{
-    let end = past(at, b.width, b.height);
-    let cells = at.cells;
-    let cells_end = end.cells;
-    let lines = at.lines;
-    let lines_end = end.lines;
-    search::search_priced(
-        &samples[cells..cells_end],
-        costs,
-        b,
-        price,
-        &mut map[cells..cells_end],
-        &mut flags[lines..lines_end],
-    )
-}
-
-// Searches the blocks one after the other. Lambda and costs, which they share, are tested once.
-fn search_all(
-    sides: &[usize],
-    samples: &[f32],
+// What the blocks share, and their samples one behind the other. Lambda and costs are tested once: `price` is what was said.
+#[derive(Clone, Copy)]
+struct Shared<'a> {
+    samples: &'a [f32],
     bd: u32,
     lambda: f32,
-    costs: &[f32],
-    map: &mut [u8],
-    flags: &mut [u8],
-) -> [Palette; 64]
-    requires { strip_number sides.now (length samples.now) (length map.old) (length flags.old) ≡ 0 }
-    ensures { Searched sides.now samples.now costs.now bd lambda
-        map.old map.new flags.old flags.new (blocks_in sides.now) result }
-{
-    let price = search::price_fault(lambda, costs);
-    let count = sides.len() / 2;
-    let mut answers = [accept::refuse(0); 64];
-    let mut at = Places { cells: 0, lines: 0 };
-    let mut i: usize = 0;
-    while i < count {
-        let width = sides[2 * i];
-        let height = sides[2 * i + 1];
-        let b = Block {
-            width,
-            height,
-            bd,
-            lambda,
+    costs: &'a [f32],
+    price: Result<(), Refusal>,
+    ghost priced: { number price ≡ price_fault lambda costs.now },
+}
+
+impl Shared<'_> {
+    // Searches one block, whose places begin at `at`.
+    fn search_at(
+        &self,
+        width: usize,
+        height: usize,
+        at: Places,
+        map: &mut [u8],
+        flags: &mut [u8],
+    ) -> Palette
+        requires { Fits (record { width = width; height = height; bd = self.now.bd; lambda = self.now.lambda }) at
+            (length self.now.samples.now) (length map.old) (length flags.old) }
+        ensures { SearchesAt self.now.samples.now self.now.costs.now
+            (record { width = width; height = height; bd = self.now.bd; lambda = self.now.lambda }) at
+            map.old map.new flags.old flags.new result }
+    {
+        let end = at.past(width, height);
+        let cells = at.cells;
+        let cells_end = end.cells;
+        let lines = at.lines;
+        let lines_end = end.lines;
+        let asked = Asked {
+            samples: &self.samples[cells..cells_end],
+            costs: self.costs,
+            block: Block {
+                width,
+                height,
+                bd: self.bd,
+                lambda: self.lambda,
+            },
+            price: self.price,
         };
-        answers[i] = search_at(samples, costs, b, price, at, map, flags);
-        at = past(at, width, height);
-        i += 1;
+        asked.search(&mut map[cells..cells_end], &mut flags[lines..lines_end])
     }
-    answers
+
+    // Searches the blocks one after the other.
+    fn search_all(&self, sides: &[usize], map: &mut [u8], flags: &mut [u8]) -> [Palette; 64]
+        requires { strip_number sides.now (length self.now.samples.now) (length map.old) (length flags.old) ≡ 0 }
+        ensures { Searched sides.now self.now.samples.now self.now.costs.now self.now.bd self.now.lambda
+            map.old map.new flags.old flags.new (blocks_in sides.now) result }
+    {
+        let mut answers = [accept::blank(); 64];
+        let mut at = Places { cells: 0, lines: 0 };
+        let (pairs, _) = sides.as_chunks::<2>();
+        for (i, pair) in pairs.iter().enumerate() {
+            answers[i] = self.search_at(pair[0], pair[1], at, map, flags);
+            at = at.past(pair[0], pair[1]);
+        }
+        answers
+    }
 }
 
 // Searches up to 64 blocks, given by their width and height pairs, with samples one block after the other. Maps and flags are
 // written at places taken in the same order, width × height and the longer side apart. A refused block's places are
 // untouched; where the whole call is refused, all places are.
+// Stays (5): as `palette::search_strip`, whose parameters the C interface gives one by one.
 pub fn search_strip(
     sides: &[usize],
     samples: &[f32],
@@ -184,13 +172,19 @@ pub fn search_strip(
     ensures { Strips sides.now samples.now costs.now bd lambda
         map.old map.new flags.old flags.new result }
 {
-    let number = fault(sides, samples.len(), map.len(), flags.len());
-    if number != 0 {
+    if let Err(refusal) = fault(sides, samples.len(), map.len(), flags.len()) {
         return Strip {
-            number,
-            answers: [accept::refuse(0); 64],
+            number: refusal.number(),
+            answers: [accept::blank(); 64],
         };
     }
-    let answers = search_all(sides, samples, bd, lambda, costs, map, flags);
-    Strip { number, answers }
+    let shared = Shared {
+        samples,
+        bd,
+        lambda,
+        costs,
+        price: search::price_fault(lambda, costs),
+    };
+    let answers = shared.search_all(sides, map, flags);
+    Strip { number: 0, answers }
 }

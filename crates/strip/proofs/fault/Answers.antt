@@ -6,6 +6,7 @@ use Rattle.lists.specs.Counted.{total}
 use Rattle.strip.specs.declared.Places.{Places}
 use Rattle.strip.specs.Strip.{blocks_in, cells_at, lines_at, strip_number}
 use Rattle.strip.specs.Steps.{places_to}
+use Rattle.strip.proofs.Sides.{all_is}
 use Rattle.strip.proofs.fault.Goals as goal
 
 -- the places of all blocks
@@ -24,7 +25,7 @@ returns-then-not-count_ok c = rw (sym c.count_ok.ensures ∙ c.if-not-count_ok.t
 pub returns-then-not-sides_ok : goal.returns-then-not-sides_ok
 unfolding strip_number
 returns-then-not-sides_ok c =
-    rw (sym c.count_ok.ensures ∙ c.if-not-count_ok.false, sym c.sides_ok.ensures ∙ c.if-not-sides_ok.true) refl
+    rw (sym c.count_ok.ensures ∙ c.if-not-count_ok.false, sym (c.sides_ok.ensures ∙ all_is _ c.args.sides.now) ∙ c.if-not-sides_ok.true) refl
 
 pub returns-then-samples-all : goal.returns-then-samples-all
 unfolding strip_number
@@ -32,7 +33,7 @@ returns-then-samples-all c =
     let all = c.places_of-all in
     rw (
       sym c.count_ok.ensures ∙ c.if-not-count_ok.false,
-      sym c.sides_ok.ensures ∙ c.if-not-sides_ok.false,
+      sym (c.sides_ok.ensures ∙ all_is _ c.args.sides.now) ∙ c.if-not-sides_ok.false,
       ne_eqb _ _ (λ e. c.if-samples-all.true (e ∙ sym (cells c.args.sides.now all.result all.ensures))),
     )
     refl
@@ -44,7 +45,7 @@ returns-then-cells-all c =
     let cells = cells c.args.sides.now all.result all.ensures in
     rw (
       sym c.count_ok.ensures ∙ c.if-not-count_ok.false,
-      sym c.sides_ok.ensures ∙ c.if-not-sides_ok.false,
+      sym (c.sides_ok.ensures ∙ all_is _ c.args.sides.now) ∙ c.if-not-sides_ok.false,
       eq-eqb _ _ (c.if-samples-all.false ∙ cells),
       lt-leb _ _ (rw cells at c.if-cells-all.true),
     )
@@ -58,7 +59,7 @@ returns-then-lines-all c =
     let lines = lines c.args.sides.now all.result all.ensures in
     rw (
       sym c.count_ok.ensures ∙ c.if-not-count_ok.false,
-      sym c.sides_ok.ensures ∙ c.if-not-sides_ok.false,
+      sym (c.sides_ok.ensures ∙ all_is _ c.args.sides.now) ∙ c.if-not-sides_ok.false,
       eq-eqb _ _ (c.if-samples-all.false ∙ cells),
       le-leb _ _ (rw cells at c.if-cells-all.false),
       lt-leb _ _ (rw lines at c.if-lines-all.true),
@@ -73,9 +74,15 @@ returns c =
     let lines = lines c.args.sides.now all.result all.ensures in
     rw (
       sym c.count_ok.ensures ∙ c.if-not-count_ok.false,
-      sym c.sides_ok.ensures ∙ c.if-not-sides_ok.false,
+      sym (c.sides_ok.ensures ∙ all_is _ c.args.sides.now) ∙ c.if-not-sides_ok.false,
       eq-eqb _ _ (c.if-samples-all.false ∙ cells),
       le-leb _ _ (rw cells at c.if-cells-all.false),
       le-leb _ _ (rw lines at c.if-lines-all.false),
     )
     refl
+
+pub places_of-all-requires : goal.places_of-all-requires
+places_of-all-requires c = (
+  sym (c.sides_ok.ensures ∙ all_is _ c.args.sides.now) ∙ c.if-not-sides_ok.false,
+  sym c.count_ok.ensures ∙ c.if-not-count_ok.false,
+)

@@ -1,29 +1,35 @@
 use mathlib.Core.Path.{◌≡◌, refl}
+use mathlib.Core.List.{[]}
+use Prim.Native.Nat.{◌<◌}
 use native.Mathlib.Omega.{arith}
-use borrow.Author.Rules.{rules}
 use Rattle.lists.specs.Counted.{total}
 use Rattle.strip.specs.Strip.{blocks_in}
-use Rattle.strip.proofs.Sides.{Within, block_within, places_more}
+use Rattle.strip.proofs.Sides.{Within, block_within, pair_at, places_more}
 use Rattle.strip.proofs.places_of.Goals as goal
 
-pub loop-i-init : goal.loop-i-init
+pub loop-pair-init : goal.loop-pair-init
 unfolding total
-loop-i-init c = (search rules, refl)
+loop-pair-init c = refl
 
 pub past-at-requires : goal.past-at-requires
 past-at-requires c =
     let p = c.requires in
-    let w : Within c.args.sides.now c.loop-i.i = block_within _ p.0 p.1 _ c.loop-i-test.true in
-    let is = c.loop-i.invariant.1 in
-    (w.width, w.height, rw is w.cells_before, rw is w.lines_before)
+    let sides = c.args.sides.now in
+    let here : c.loop-pair.pair-index < blocks_in sides = omega (arith, c.loop-pair-test.true, c.as_chunks.ensures.front_len) in
+    let w : Within sides c.loop-pair.pair-index = block_within _ p.0 p.1 _ here in
+    let pair = pair_at sides _ c.as_chunks.ensures.front _ [] here in
+    let is = c.loop-pair.invariant in
+    (rw pair.0 w.width, rw pair.1 w.height, rw is w.cells_before, rw is w.lines_before)
 
-pub loop-i-preserved : goal.loop-i-preserved
-loop-i-preserved c =
-    let l = c.loop-i in
-    (omega arith, places_more c.args.sides.now l.i l.at _ l.invariant.1 c.past-at.ensures)
+pub loop-pair-preserved : goal.loop-pair-preserved
+loop-pair-preserved c =
+    let sides = c.args.sides.now in
+    let here : c.loop-pair.pair-index < blocks_in sides = omega (arith, c.loop-pair-test.true, c.as_chunks.ensures.front_len) in
+    let pair = pair_at sides _ c.as_chunks.ensures.front _ [] here in
+    places_more sides c.loop-pair.pair-index _ _ c.loop-pair.at _ c.loop-pair.invariant pair.0 pair.1 c.past-at.ensures
 
 pub returns : goal.returns
 returns c =
-    let l = c.loop-i in
-    let e : l.i ≡ blocks_in c.args.sides.now = omega arith in
-    rw e at l.invariant.1
+    let l = c.loop-pair in
+    let e : l.pair-index ≡ blocks_in c.args.sides.now = omega (arith, c.loop-pair-test.false, c.as_chunks.ensures.front_len) in
+    rw e at l.invariant
