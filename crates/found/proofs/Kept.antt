@@ -112,8 +112,7 @@ module _ {samples costs : List Float} {b : Block} {room lineRoom : ℕ} (ready :
       let lines = le_of_eq (sym (length-replicate {A = ℕ} scan.lines 0)) in
       subst (λ e. Valid n scan e.map e.flags) kept.whole
       (found_valid samples costs colours n b.lambda scan (w * h) sound some kept.eight head kept.bound
-      (replicate (w * h) 0) (replicate scan.lines 0) cells lines (λ i. zeros_below (w * h) n i some) kept.error
-      kept.bits (ap (λ e. e.result) kept.whole))
+      (replicate (w * h) 0) (replicate scan.lines 0) cells lines (λ i. zeros_below (w * h) n i some) kept.cost (ap (λ e. e.result) kept.whole))
 
   pub kept_accepted : (cache : List ℕ) → length cache ≤ 64
       → Accepted w h b.bd cache (palette_of s.best.colors n t s.map s.flags)

@@ -16,7 +16,8 @@ use Rattle.scan.specs.Scan.{cell_in, Sound}
 use Rattle.map_search.specs.Lines.{line_of, Walk, Ended, next, reached, rest_of, map_of}
 use Rattle.scan.specs.declared.Scan.{Scan}
 use Rattle.map_search.specs.declared.Choice.{Choice}
-use Rattle.map_search.specs.declared.MapResult.TheVariants.{Found, Beaten}
+use Rattle.std.specs.Prelude.{Some, None}
+use Rattle.cells.specs.declared.Cost.{Cost}
 use Rattle.map_search.proofs.LineChoice.{line_plain, line_flag}
 use Rattle.map_search.proofs.PutLine.{length_put, put_below}
 use Rattle.found.proofs.Lines.{line_same}
@@ -27,8 +28,8 @@ pub record Valid (n : ℕ) (s : Scan) (map flags : List ℕ) : Type 0 where
   pub below : Below map n
   pub lines : (l : ℕ) → l < s.lines → line_ok (get_or flags l 0) (cell_in map s) s.len l ≡ true
 
-not_found : (error bits : Float) → Beaten ≡ Found error bits → ⊥
-not_found error bits e =
+not_found : (cost : Cost) → None ≡ Some cost → ⊥
+not_found cost e =
     let differ : ◌≡◌ {A = ℕ} 0 1 = cc in
     omega arith
 
@@ -80,19 +81,19 @@ module _ (samples costs colours : List Float) (n : ℕ) (lambda : Float) (s : Sc
 
   -- if it is found, it is valid
   abbrev FoundValid : Ended → Type 0
-  FoundValid e = (error bits : Float) → e.result ≡ Found error bits → Valid n s e.map e.flags
+  FoundValid e = (cost : Cost) → e.result ≡ Some cost → Valid n s e.map e.flags
 
   module _ (head bound : Float) where
     rest_valid : (k l : ℕ) (t : Walk) → l + k ≡ s.lines → Good l t
         → FoundValid (rest_of samples costs colours n lambda s head bound k l t)
     unfolding rest_of
     rest_valid zero l t all good =
-        λ error bits e. record { below = good.below; lines = λ j h. good.lines j (omega arith) }
+        λ cost e. record { below = good.below; lines = λ j h. good.lines j (omega arith) }
     rest_valid (suc k) l t all good =
         let u = step t l in
         let rest = rest_valid k (l + 1) u (omega arith) (good_next l t (omega arith) good) in
         either_way FoundValid (reached samples costs colours n lambda s head bound u)
-        (record { map = u.map; flags = u.flags; result = Beaten }) _ (λ error bits e. absurd (not_found error bits e)) rest
+        (record { map = u.map; flags = u.flags; result = None }) _ (λ cost e. absurd (not_found cost e)) rest
 
     -- what is found is valid: every index below n, and each line as its flag says
     pub found_valid : (map flags : List ℕ) → N ≤ length map → s.lines ≤ length flags → Below map n
