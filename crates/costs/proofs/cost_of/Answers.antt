@@ -9,21 +9,21 @@ use Rattle.costs.proofs.cost_of.Goals as goal
 use Rattle.costs.proofs.cost_of.Goals.{then-p-threshold, else-p-threshold}
 
 pub loop-threshold-init : goal.loop-threshold-init
-loop-threshold-init c = (omega arith, begins _)
+loop-threshold-init c = (begins _, omega arith)
 
 pub loop-threshold-preserved : goal.loop-threshold-preserved
 unfolding threshold_table
 loop-threshold-preserved c =
     let l = c.loop-threshold in (
-      elim c.if-p-threshold.branch [
-        | then-p-threshold w ↦ omega (arith, w.c-is, l.invariant.0)
-        | else-p-threshold w ↦ omega (arith, w.c-is, l.invariant.0)
-      ],
-      turn _ l.c l.threshold-index c.if-p-threshold.c c.loop-threshold-test.true l.invariant.1
+      turn _ l.c l.threshold-index c.if-p-threshold.c c.loop-threshold-test.true l.invariant.0
           (elim c.if-p-threshold.branch [
             | then-p-threshold w ↦ inl (w.if-p-threshold.true, w.c-is)
             | else-p-threshold w ↦ inr (w.if-p-threshold.false, w.c-is)
           ]),
+      elim c.if-p-threshold.branch [
+        | then-p-threshold w ↦ omega (arith, w.c-is, l.invariant.1)
+        | else-p-threshold w ↦ omega (arith, w.c-is, l.invariant.1)
+      ],
     )
 
 pub returns : goal.returns
@@ -31,4 +31,4 @@ unfolding cost_of
 returns c =
     let l = c.loop-threshold in
     let e : l.threshold-index + 1 ≡ 241 = omega (arith, l.auto.threshold-index-end, c.loop-threshold-test.false) in
-    l.invariant.1 ∙ ap (last (meets _)) e
+    l.invariant.0 ∙ ap (last (meets _)) e
