@@ -1,11 +1,9 @@
 -- The places of a map's lines, and what a line's flag says. Assumes nothing.
 use mathlib.Core.Bool.{Bool, true, false, false≢true}
-use mathlib.Core.Path.{◌≡◌, refl}
-use Prim.Native.Nat.{ℕ, zero, suc, ◌+◌, ◌-◌, ◌*◌, ◌<◌, ◌≤◌}
+use mathlib.Core.Path.{◌≡◌}
+use Prim.Native.Nat.{ℕ, zero, suc, ◌+◌, ◌*◌, ◌<◌, ◌≤◌}
 use native.Mathlib.Nat.{mul-le-mul_right}
 use native.Mathlib.Omega.{arith}
-use lib.Dec.{eqb}
-use Rattle.lists.specs.Counted.{all_below}
 use Rattle.context.specs.Map.{row_at, col_at, lines_of, length_of}
 use Rattle.accept.specs.Accepted.{line_ok}
 
@@ -20,20 +18,6 @@ in_block false w h l a p q = record { row = p; column = q; place = omega (arith,
 in_block true w h l a p q = record { row = q; column = p; place = omega (arith, mul-le-mul_right w q) }
 
 module _ (at : ℕ → ℕ → ℕ) (len : ℕ) where
-  -- a copy of the line before
-  pub copied : (l : ℕ) → 0 < l → line_ok 2 at len l ≡ all_below (λ a. eqb (at l a) (at (l - 1) a)) len
-  unfolding line_ok
-  copied zero h = absurd (omega arith)
-  copied (suc k) h = let e : suc k - 1 ≡ k = omega arith in rw e refl
-
-  -- no other flag
-  pub flag_above : (f l : ℕ) → 2 < f → line_ok f at len l ≡ false
-  unfolding line_ok
-  flag_above zero l h = absurd (omega arith)
-  flag_above (suc zero) l h = absurd (omega arith)
-  flag_above (suc (suc zero)) l h = absurd (omega arith)
-  flag_above (suc (suc (suc f))) l h = refl
-
   pub flag_most : (f l : ℕ) → line_ok f at len l ≡ true → f ≤ 2
   unfolding line_ok
   flag_most zero l e = omega arith

@@ -34,6 +34,7 @@ pub fn within(low: usize, high: usize, x: usize) -> bool
     low <= x && x <= high
 }
 
+#[tactic(auto, unfolding(crate::specs::Accepted::sides_ok))]
 pub fn sides_ok(width: usize, height: usize) -> bool
     ensures { result ≡ sides_ok width height }
 {
@@ -49,6 +50,7 @@ pub fn rooms_ok(width: usize, height: usize, cells: usize, lines: usize) -> bool
 }
 
 // A transposed palette sends its orientation.
+#[tactic(auto, unfolding(crate::specs::Accepted::orient_ok))]
 pub fn orient_ok(width: usize, height: usize, transposed: bool) -> bool
     ensures { result ≡ orient_ok width height transposed }
 {
@@ -86,6 +88,7 @@ pub struct Mapped<'a> {
 
 impl Mapped<'_> {
     // The first test that fails. It reads, and writes nothing.
+    #[tactic(auto, unfolding(crate::specs::Accepted::refusal, crate::specs::Accepted::depth_ok, crate::specs::Accepted::cache_ok))]
     pub fn fault(&self, cached: usize) -> Result<(), Refusal>
         ensures { number result ≡ refusal self.now.width self.now.height self.now.bd cached (palette_in self.now) }
     {
@@ -121,6 +124,7 @@ impl Mapped<'_> {
     }
 
     // Whether there is one index for each cell, and one flag for each line.
+    #[tactic(auto, unfolding(crate::specs::Accepted::counts_ok))]
     fn counts_ok(&self) -> bool
         requires { (self.now.width ≤ 64) × (self.now.height ≤ 64) }
         ensures { result ≡ counts_ok self.now.width self.now.height (palette_in self.now) }
@@ -167,6 +171,7 @@ impl Mapped<'_> {
     }
 
     // Whether line l is as its flag says.
+    #[tactic(auto, unfolding(crate::specs::Accepted::line_ok))]
     fn line_ok(&self, l: usize, flag: u8) -> bool
         requires map_len { length self.now.map.now ≡ self.now.width * self.now.height }
         requires l_bound { l < lines_of self.now.transposed self.now.width self.now.height }
@@ -201,6 +206,7 @@ impl Mapped<'_> {
     }
 
     // The index at place a of line l.
+    #[tactic(auto, unfolding(context::specs::Map::line_cell, context::specs::Map::cell))]
     fn index_at(&self, l: usize, a: usize) -> u8
         requires { row_at self.now.transposed l a * self.now.width + col_at self.now.transposed l a < length self.now.map.now }
         ensures { result ≡ cells_in self.now l a }

@@ -109,6 +109,7 @@ fn is_corner(y: usize, x: usize) -> bool
 }
 
 // How many cells a line sends: all, one or none.
+#[tactic(auto, unfolding(crate::specs::Map::sent_cells))]
 fn sent_cells(flag: u8, len: usize) -> usize
     ensures { result ≡ sent_cells flag len }
 {
@@ -211,6 +212,7 @@ impl IndexMap<'_> {
     }
 
     // The orientation bit, where it is sent.
+    #[tactic(auto, unfolding(crate::specs::Map::orient_words, lists::specs::Written::written))]
     fn emit_orientation(&self, out: &mut [u32], at: usize) -> usize
         requires { at + length (orient_words self.now.w self.now.h self.now.transposed) ≤ length out.old }
         ensures value { result ≡ at + length (orient_words self.now.w self.now.h self.now.transposed) }
@@ -262,6 +264,7 @@ impl Coder<'_> {
     }
 
     // The words of the first `count` cells of line l, cell by cell.
+    #[tactic(auto, unfolding(lists::specs::Written::written, lists::specs::Counted::up_to))]
     fn emit_cells(&self, l: usize, count: usize, out: &mut [u32], at: usize) -> usize
         requires l_bound { (l < lines_in self.now.map) × (count ≤ length_in self.now.map) }
         requires count_in_bounds { at + count ≤ length out.old }
@@ -331,6 +334,7 @@ impl Coder<'_> {
     }
 
     // The words of line l: its flag under a context, then the cells that it sends.
+    #[tactic(auto, unfolding(lists::specs::Written::written))]
     fn emit_line(&self, l: usize, context: u8, flag: u8, out: &mut [u32], at: usize) -> usize
         requires l_bound { l < lines_in self.now.map }
         requires count_in_bounds { at + 1 + sent_cells flag (length_in self.now.map) ≤ length out.old }
@@ -346,6 +350,7 @@ impl Coder<'_> {
     }
 
     // The words of all lines. The first has context 3, each other the flag before.
+    #[tactic(auto, unfolding(crate::specs::Map::row_context, lists::specs::Written::written, lists::specs::Counted::up_to))]
     fn emit_lines(&self, out: &mut [u32], at: usize) -> usize
         requires { at + length (up_to (words_in self.now.map) (lines_in self.now.map)) ≤ length out.old }
         ensures value { result ≡ at + length (up_to (words_in self.now.map) (lines_in self.now.map)) }
@@ -362,6 +367,7 @@ impl Coder<'_> {
     }
 
     // The orientation bit, then the lines.
+    #[tactic(auto, unfolding(crate::specs::Map::map_words))]
     fn emit(&self, out: &mut [u32], at: usize) -> usize
         requires { at + length (map_words self.now.map.n self.now.map.transposed self.now.map.flags.now self.now.map.cells.now
             self.now.map.w self.now.map.h) ≤ length out.old }

@@ -1,9 +1,6 @@
-use Rattle.std.proofs.Common.{◌<◌, refl, ◌∙◌, arith, length-set}
+use Rattle.std.proofs.Common.{◌<◌, ◌∙◌, arith, length-set}
 use Rattle.emit.proofs.Keys.{filled, code_word}
 use Rattle.emit.proofs.words_of.Goals as goal
-
-pub loop-c-init : goal.loop-c-init
-loop-c-init c = (refl, λ i h g. absurd (omega arith))
 
 pub loop-c-preserved : goal.loop-c-preserved
 loop-c-preserved c =
@@ -12,6 +9,3 @@ loop-c-preserved c =
       length-set l.word-items l.c c.call.result ∙ l.invariant.0,
       filled (code_word c.args.n) l.word-items 0 l.c c.call.result (omega (arith, l.invariant.0)) l.invariant.1 c.call.ensures,
     )
-
-pub returns : goal.returns
-returns c = let l = c.loop-c in λ i h. l.invariant.1 i (omega arith) (omega arith)

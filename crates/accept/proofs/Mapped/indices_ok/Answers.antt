@@ -1,11 +1,8 @@
 use mathlib.Core.Bool.{and_assoc, and-true}
 use lib.ListN.{drop_of_length-le}
-use Rattle.std.proofs.Common.{◌≡◌, refl, sym, ◌∙◌, [], ◌∷◌, ◌+◌, add-one, get_or, drop, drop-cons}
+use Rattle.std.proofs.Common.{◌≡◌, sym, ◌∙◌, [], ◌∷◌, ◌+◌, add-one, get_or, drop, drop-cons}
 use Rattle.lists.specs.Counted.{all_in}
 use Rattle.accept.proofs.Mapped.indices_ok.Goals as goal
-
-pub loop-index-init : goal.loop-index-init
-loop-index-init c = refl
 
 pub loop-index-preserved : goal.loop-index-preserved
 unfolding all_in

@@ -33,9 +33,3 @@ index_at-requires-in-loop-a c =
 pub loop-a-preserved : goal.loop-a-preserved
 loop-a-preserved c =
     more _ c.loop-a.a c.loop-a.same _ c.loop-a.invariant (rw (c.index_at.ensures, c.index_at-in-loop-a.ensures) refl)
-
-pub returns : goal.returns
-returns c =
-    let l = c.loop-a in
-    let whole : l.a ≡ c.length_of-a-end.result = omega (arith, l.auto.a-end, c.loop-a-test.false) in
-    rw (whole, c.length_of-a-end.ensures) at l.invariant

@@ -3,9 +3,6 @@ use Rattle.std.proofs.Common.{sym, arith}
 use Rattle.lists.proofs.Counted.{all_below_of, all_below_not}
 use Rattle.accept.proofs.Mapped.lines_ok.Goals as goal
 
-pub loop-l-init : goal.loop-l-init
-loop-l-init c = λ k h. absurd (omega arith)
-
 pub returns-then-not-line_ok : goal.returns-then-not-line_ok
 returns-then-not-line_ok c =
     sym (all_below_not _ _ c.loop-l.l (omega arith) (sym c.if-not-line_ok.ensures))

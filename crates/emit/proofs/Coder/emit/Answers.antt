@@ -24,14 +24,6 @@ module _ (m : IndexMap) where
   sum : length all ≡ length orient + length lines
   sum = rw parts (length-append orient lines)
 
-pub emit_orientation-next-requires : goal.emit_orientation-next-requires
-emit_orientation-next-requires c = omega (arith, sum c.args.self.now.map, c.requires)
-
-pub emit_lines-requires : goal.emit_lines-requires
-emit_lines-requires c =
-    let o = c.emit_orientation-next in
-    omega (arith, sum c.args.self.now.map, c.requires, o.ensures.value, o.auto.out)
-
 pub returns : goal.returns
 returns c =
     let m = c.args.self.now.map in

@@ -55,9 +55,6 @@ readable : (s : Coder) (keys : List ℕ) (l count : ℕ) → 0 < l → KeysIn s.
 readable s keys l count first held from to p q b u v =
     (near s keys l count first held b (omega arith) (omega arith), code s keys l count first held b (omega arith) (omega arith))
 
-pub loop-a-init : goal.loop-a-init
-loop-a-init c = (omega arith, omega (arith, c.requires.count_bound.0), refl, λ f same start e. e)
-
 pub emit_keys-requires : goal.emit_keys-requires
 emit_keys-requires c =
     let s = c.args in

@@ -43,10 +43,6 @@ module _ (m : IndexMap) (out₀ : List ℕ) (at : ℕ) (out : List ℕ) (pos con
         wrote = this ∙ rw (v.wrote, v.place) (written_more (words_in m) out₀ at l);
       }
 
-pub loop-l-init : goal.loop-l-init
-unfolding up_to written row_context
-loop-l-init c = record { told = refl; size = refl; place = omega arith; wrote = refl }
-
 -- first the words, then the room that they need: a wrong flag is refused at its word
 pub loop-l-preserved : goal.loop-l-preserved
 loop-l-preserved c =
@@ -58,9 +54,3 @@ pub emit_line-pos-requires-clause-count_in_bounds : goal.emit_line-pos-requires-
 emit_line-pos-requires-clause-count_in_bounds c =
     let l = c.loop-l in
     fits c.args.self.now.map _ _ _ _ _ l.l l.invariant (rw c.lines_of-l-end.ensures at c.loop-l-test.true) c.requires
-
-pub returns : goal.returns
-returns c =
-    let l = c.loop-l in
-    let e : l.l ≡ lines_in c.args.self.now.map = omega (arith, l.auto.l-end, c.loop-l-test.false, c.lines_of-l-end.ensures) in
-    record { value = l.invariant.place ∙ rw e refl; out_after = l.invariant.wrote ∙ rw e refl }

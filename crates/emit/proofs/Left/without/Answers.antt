@@ -40,12 +40,6 @@ module _ (s : Left) (e k i : ℕ) (left : List ℕ) (room : length left ≡ 8) (
   size : k ≡ length (remove e (colors_of s))
   size = sym (length-take-le k left (omega (arith, few s))) ∙ ap length is
 
-pub loop-color-init : goal.loop-color-init
-loop-color-init c = (omega arith, refl, refl)
-
-pub offset_bounds-left-k : goal.offset_bounds-left-k
-offset_bounds-left-k c = omega (arith, few c.args.self.now, c.loop-color.invariant.0, c.loop-color-test.true)
-
 pub loop-color-preserved : goal.loop-color-preserved
 loop-color-preserved c =
     let l = c.loop-color in
