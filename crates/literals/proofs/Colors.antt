@@ -8,19 +8,10 @@ use native.Mathlib.Omega.{arith}
 use native.Mathlib.Numerals.{add-one}
 use lib.ListN.{length, get_or, take, drop, drop_of_length-le}
 use lib.Seq.{drop-cons, take_all}
-use mir.Syntax.{w16}
-use mir.Val.{Val}
-use denote.Laws.{Is}
-use denote.Array.{Array}
-use borrow.Kind.Array.{good_length, e_int}
 use Rattle.lists.proofs.Ascending.{ascending_at}
 use Rattle.literals.specs.Words.{bypass}
 use Rattle.literals.specs.Literals.{levels_ok, step_bits, step_words, more_words, literal_words, steps_width, literal_bits}
 use Rattle.literals.proofs.Levels.{levels_ascend, level_at, levels_tail}
-
--- an array of eight has n places for each n up to 8
-pub eight : (n : ℕ) (colors : List ℕ) (vs : List Val) → Is (Array (e_int w16).ty 8) colors vs → n ≤ 8 → n ≤ length colors
-eight n colors vs good h = omega (arith, good_length (e_int w16) 8 colors vs good)
 
 -- the next colour is above, and within the depth
 pub record Step (bd c d : ℕ) (ds : List ℕ) : Type 0 where
