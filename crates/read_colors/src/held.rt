@@ -35,10 +35,9 @@ impl Held {
     {
         let mut colors = [0u16; 8];
         let mut carry = level.0;
-        for i in 0..self.count {
-            let c = self.colors[i];
-            colors[i] = carry.min(c);
-            carry = carry.max(c);
+        for (i, c) in self.colors[..self.count].iter().enumerate() {
+            colors[i] = carry.min(*c);
+            carry = carry.max(*c);
         }
         colors[self.count] = carry;
         *self = Held {

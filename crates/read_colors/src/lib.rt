@@ -78,6 +78,7 @@ fn read_steps(
 {
     let mut b = first;
     let mut last = from;
+    // Stays (3): no index is counted by hand, the colours held are.
     while held.count < n {
         let step = words.take(1, b, step_limit(bd, b, last))?;
         last = level_above(last, step, bd);

@@ -85,6 +85,7 @@ fn relists(b: &Head, cells: &[u8], lines: &[u8], aside: &mut [u32]) -> bool
         b.cache,
         aside,
     );
+    // Stays (1): `Listed` keeps its number, which C is given.
     if listed.number != 0 {
         return false;
     }
@@ -92,6 +93,7 @@ fn relists(b: &Head, cells: &[u8], lines: &[u8], aside: &mut [u32]) -> bool
 }
 
 // Reads the lines behind the head, into cells and lines; what is read to its end has to be listed again.
+// Stays (5): cells, lines and aside are lent apart here and below; no proof is made where one call lends several fields of a struct lent.
 fn read_rest(
     b: &Head,
     cells: &mut [u8],
@@ -244,6 +246,7 @@ fn read_into(
 
 // Reads a call list back: colours and orientation are returned, map and flags written from the front; or it is refused and
 // nothing is written.
+// Stays (1, 5): the form of `palette::read`, which hands the answer with its number on to C.
 pub fn read(
     width: usize,
     height: usize,

@@ -1,38 +1,36 @@
 use mathlib.Core.Path.{◌≡◌, refl, sym, ap, ◌∙◌}
-use mathlib.Core.List.{List}
+use mathlib.Core.List.{List, ◌∷◌}
 use Prim.Native.Nat.{ℕ, ◌+◌, ◌≤◌, ◌<◌, min, max}
 use native.Mathlib.Omega.{arith}
-use lib.ListN.{length, take, set, get_or, replicate, length-set}
+use lib.ListN.{length, take, set, get_or, drop, replicate, length-set, drop_of_length-le}
+use lib.Seq.{drop-cons}
+use native.Mathlib.Numerals.{add-one}
 use Rattle.lists.specs.Written.{written}
-use Rattle.lists.proofs.Rest.{next, done}
 use Rattle.lists.proofs.Written.{written_front}
 use Rattle.read_colors.specs.Colors.{insert, in_eight}
 use Rattle.read_colors.specs.Held.{colors_in}
 use Rattle.read_colors.specs.declared.held.Held.{Held}
-use Rattle.read_colors.proofs.Inserted.{length_insert, length_held, length_eight, eight_front}
+use Rattle.read_colors.proofs.Inserted.{length_insert, length_held, eight_front}
 use Rattle.read_colors.proofs.held.Held.insert.Invariants.{Inv}
 use Rattle.read_colors.proofs.held.Held.insert.Goals as goal
 
-module _ (h : Held) (e : ℕ) (out : List ℕ) (carry i : ℕ) (v : Inv h.count h.colors e out carry i) where
-  fits : h.count ≤ length h.colors
-  fits = omega (arith, length_eight h, h.few)
-
-  turn : i < h.count → (low high : ℕ) → low ≡ min carry (get_or h.colors i 0) → high ≡ max carry (get_or h.colors i 0)
-      → Inv h.count h.colors e (set out i low) high (i + 1)
+module _ (h : Held) (e : ℕ) (out : List ℕ) (carry i : ℕ) (v : Inv (colors_in h) e out carry i) where
+  turn : i < length (colors_in h) → (low high : ℕ) → low ≡ min carry (get_or (colors_in h) i 0) → high ≡ max carry (get_or (colors_in h) i 0)
+      → Inv (colors_in h) e (set out i low) high (i + 1)
   unfolding insert written
-  turn k low high p q = record {
-    eight = length-set out i low ∙ v.eight;
-    put = rw (p, q) (rw (next h.count h.colors fits i k) at v.put);
-  }
+  turn k low high p q =
+      let next : drop i (colors_in h) ≡ get_or (colors_in h) i 0 ∷ drop (i + 1) (colors_in h) = rw (drop-cons (colors_in h) i 0 k, add-one) refl in
+      record { eight = length-set out i low ∙ v.eight; put = rw (p, q) (rw next at v.put) }
 
   -- the places behind the loop, with the colour carried put in
-  module _ (room : h.count < 8) (same : i ≡ h.count) where
+  module _ (room : h.count < 8) (same : i ≡ length (colors_in h)) where
     end : set out h.count carry ≡ in_eight (insert e (colors_in h))
     unfolding insert written
     end =
         let few : length (insert e (colors_in h)) ≤ 8 = omega (arith, length_insert e (colors_in h), length_held h) in
-        let last = rw (done h.count h.colors fits i (omega arith)) at v.put in
-        rw same at last ∙ written_front (replicate 8 0) (insert e (colors_in h)) few
+        let at : i ≡ h.count = same ∙ length_held h in
+        let last = rw (drop_of_length-le (colors_in h) {i = i} (omega arith)) at v.put in
+        rw at at last ∙ written_front (replicate 8 0) (insert e (colors_in h)) few
 
     inserted : take (h.count + 1) (set out h.count carry) ≡ insert e (colors_in h)
     inserted =
