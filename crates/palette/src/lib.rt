@@ -1,4 +1,5 @@
 // The front door: everything that is open to callers, each function for all arguments.
+// Stays (1, 5): a number in each answer and parameters one by one, as README names them and the C interface gives them.
 #![tactic(auto)]
 
 ghost use Rattle.std.specs.Prelude.{◌≡◌, length};

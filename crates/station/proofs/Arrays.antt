@@ -1,12 +1,8 @@
 -- A context's number. Assumes nothing.
-use mathlib.Core.Path.{◌≡◌, ap, ◌∙◌}
-use mathlib.Core.List.{List, ◌∷◌, ◌++◌, append-nil}
-use Prim.Native.Nat.{ℕ, ◌+◌, ◌<◌}
+use mathlib.Core.List.{List}
+use Prim.Native.Nat.{ℕ, ◌<◌}
 use native.Mathlib.Omega.{arith}
-use lib.ListN.{length, replicate, length-append, drop_of_length-le}
-use Rattle.lists.specs.Written.{written, front}
 use Rattle.lists.proofs.Choice.{either_way}
-use Rattle.lists.proofs.Written.{written_append, written_front}
 use Rattle.context.specs.Order.{by_three, around}
 use Rattle.color_ctx.specs.Context.{context_ok, answered, refused, context_of}
 use Rattle.color_ctx.specs.declared.Context.{Context}

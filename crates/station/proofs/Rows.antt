@@ -1,27 +1,25 @@
 -- The answers of a strip in rows and in pairs, one behind the other. Assumes nothing.
 use mathlib.Core.Path.{◌≡◌, refl, sym, ap, ◌∙◌}
 use mathlib.Core.Bool.{Bool, true, false}
-use mathlib.Core.List.{List, [], ◌∷◌, ◌++◌, append_assoc}
+use mathlib.Core.List.{List, ◌++◌}
 use Prim.Native.Nat.{ℕ, ◌+◌, ◌-◌, ◌*◌, ◌≤◌, ◌<◌}
 use native.Mathlib.Nat.{le_of_eq}
-use native.Mathlib.Numerals.{add-one, unary_clauses}
+use native.Mathlib.Numerals.{unary_clauses}
 use native.Mathlib.Omega.{arith}
 use lib.Dec.{leb}
 use borrow.Author.Tests.{leb-true, leb-false}
-use lib.ListN.{length, get_or, take, set, length-set}
-use lib.Seq.{take_all, take-suc-set}
+use lib.ListN.{length, get_or, take}
+use lib.Seq.{take_all}
 use lib.Ieee.{Float}
-use borrow.Rule.Slice.PartMut.{mid_of, put_mid, same_len_mid, mid_len}
+use borrow.Rule.Slice.PartMut.{put_mid, same_len_mid, mid_len}
 use Rattle.lists.specs.Counted.{up_to}
-use Rattle.lists.specs.Written.{written}
 use Rattle.lists.proofs.Counted.{up_to_more}
 use Rattle.lists.proofs.Parts.{put_front}
 use Rattle.accept.specs.declared.Palette.{Palette}
 use Rattle.accept.specs.Answer.{refused_by}
 use Rattle.search.proofs.Answer.{few_colors}
 use Rattle.strip.specs.Strip.{Searched}
-use Rattle.station.specs.Searched.{fields_of, bits_of}
-use Rattle.station.specs.Strip.{row_of, row_at, pair_at, Few}
+use Rattle.station.specs.Strip.{Few}
 
 -- of 64 answers, each told in k places, those before the i-th stand in front
 module _ {A : Type 0} (k : ℕ) (told : ℕ → List A) where
