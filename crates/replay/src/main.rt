@@ -31,7 +31,22 @@ struct Asked {
 
 impl Asked {
     fn by(head: [u8; 29]) -> Asked {
-        let [width, height, bd, n, transposed, cached, lines, c0, c1, w0, w1, v0, v1, ..] = head;
+        let [
+            width,
+            height,
+            bd,
+            n,
+            transposed,
+            cached,
+            lines,
+            c0,
+            c1,
+            w0,
+            w1,
+            v0,
+            v1,
+            ..
+        ] = head;
         let mut colors = [0; 8];
         let (pairs, _) = head[13..].as_chunks();
         for (color, pair) in colors.iter_mut().zip(pairs) {
@@ -74,7 +89,11 @@ fn replay_list<W: Write>(
         cache,
         &mut words[..a.word_room],
     );
-    write!(out, " {} {} {}", listed.number, listed.count, listed.raw_width)?;
+    write!(
+        out,
+        " {} {} {}",
+        listed.number, listed.count, listed.raw_width
+    )?;
     print_buffer(out, &words, listed.count, 4000000000)
 }
 
@@ -107,7 +126,13 @@ fn replay<R: Read, W: Write>(input: &mut R, out: &mut W, place: u64, a: Asked) -
     input::read_full(input, &mut flags[..a.lines])?;
     input::read_full(input, &mut map[..a.cells])?;
     write!(out, "{place}")?;
-    replay_list(out, a, &cache[..a.cached], &flags[..a.lines], &map[..a.cells])?;
+    replay_list(
+        out,
+        a,
+        &cache[..a.cached],
+        &flags[..a.lines],
+        &map[..a.cells],
+    )?;
     replay_pred(out, a, &flags[..a.lines], &map[..a.cells])?;
     out.write_all(b"\n")
 }

@@ -32,7 +32,11 @@ fn hash_inside(h: Hash, left: u8, n: usize) -> Hash {
 fn print_neighbour<W: Write>(out: &mut W, n: usize, neighbour: u8) -> io::Result<()> {
     let top_row = hash_answer(Hash::new(), &[neighbour], 2, 0, 1, n);
     let edges = hash_answer(top_row, &[neighbour], 1, 1, 0, n);
-    writeln!(out, "{n} {neighbour} {}", hash_inside(edges, neighbour, n).value)
+    writeln!(
+        out,
+        "{n} {neighbour} {}",
+        hash_inside(edges, neighbour, n).value
+    )
 }
 
 fn print_all<W: Write>(out: &mut W) -> io::Result<()> {
@@ -65,7 +69,13 @@ fn replay<R: Read, W: Write>(
     let mut cells = [0u8; 600];
     input::read_full(input, &mut cells[..count])?;
     let map = &cells[..count];
-    let found = palette::color_ctx(map, far([s0, s1]), far([y0, y1]), far([x0, x1]), far([n0, n1]));
+    let found = palette::color_ctx(
+        map,
+        far([s0, s1]),
+        far([y0, y1]),
+        far([x0, x1]),
+        far([n0, n1]),
+    );
     write!(out, "{place} {} {}", found.number, found.ctx)?;
     for index in found.order {
         write!(out, " {index}")?;

@@ -34,7 +34,12 @@ fn replay<R: Read, W: Write>(
     read_numbers(input, &mut numbers[..count])?;
     let made = palette::make_costs(&numbers[..count]);
     let bits = made.costs.map(bits_of);
-    writeln!(out, "{place} {} {}", made.number, Hash::new().with_all(&bits).value)
+    writeln!(
+        out,
+        "{place} {} {}",
+        made.number,
+        Hash::new().with_all(&bits).value
+    )
 }
 
 fn main(rt: HostRuntime) -> io::Result<()> {

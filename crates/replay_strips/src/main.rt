@@ -33,7 +33,24 @@ struct StripHead {
 
 impl StripHead {
     fn by(head: [u8; 16]) -> StripHead {
-        let [s0, s1, bd, m0, m1, f0, f1, n0, n1, c0, c1, l0, l1, l2, l3, again] = head;
+        let [
+            s0,
+            s1,
+            bd,
+            m0,
+            m1,
+            f0,
+            f1,
+            n0,
+            n1,
+            c0,
+            c1,
+            l0,
+            l1,
+            l2,
+            l3,
+            again,
+        ] = head;
         StripHead {
             sides: size([s0, s1], 300),
             bd: u32::from(bd),
@@ -164,7 +181,12 @@ fn replay<W: Write>(out: &mut W, place: u64, a: StripHead, read: &Strips) -> io:
         &mut map[..a.map_room],
         &mut flags[..a.flag_room],
     );
-    write!(out, "{place} {} {}", strip.number, hash_answers(&strip.answers))?;
+    write!(
+        out,
+        "{place} {} {}",
+        strip.number,
+        hash_answers(&strip.answers)
+    )?;
     writeln!(out, " {} {}", hash_bytes(&map), hash_bytes(&flags))?;
     if strip.number == 0 {
         print_blocks(out, &strip.answers, read.sides(&a), &map, &flags)?;

@@ -4,16 +4,19 @@
 // Functions here may have a `requires`.
 #![tactic(auto)]
 
-ghost use Rattle.std.specs.Prelude.{◌≡◌, cond, ◌*◌, ◌<◌, ◌≤◌, eqb, length, ◌++◌, codes, decimal, OnOk, OnErr};
+ghost use Rattle.std.specs.Prelude.{◌≡◌, cond, ◌+◌, ◌*◌, ◌%◌, ◌<◌, ◌≤◌, min, eqb, length, take, ◌++◌, codes, decimal, IfOk, IfSome, OnOk, OnErr};
+ghost use Rattle.std.specs.Int.{w16, from_le_bytes};
 ghost use Rattle.std.specs.Float.{binary32};
 ghost use Rattle.std.specs.Float.Ieee.{eq, to_bits};
-ghost use Rattle.std.specs.Io.KnownBytes.{Appends};
+ghost use Rattle.std.specs.Io.KnownBytes.{Appends, Consumes};
 
 use std::io;
 use std::io::{Read, Write};
 
 // The next N bytes, or none where the input has no more as many.
-pub fn read_head<R: Read, const N: usize>(input: &mut R) -> io::Result<Option<[u8; N]>> {
+pub fn read_head<R: Read, const N: usize>(input: &mut R) -> io::Result<Option<[u8; N]>>
+    ensures { IfOk result (λ o. IfSome o (λ head. Consumes (R.remaining input.old) (R.remaining input.new) head)) }
+{
     let mut head = [0; N];
     if input::read_full(input, &mut head)? < N {
         return Ok(None);
@@ -74,9 +77,9 @@ pub fn read_numbers<R: Read, T: OfBytes<N>, const N: usize>(
 
 // A size of two bytes, cut to what the buffer holds.
 pub fn size(bytes: [u8; 2], most: usize) -> usize
-    ensures { result ≤ most }
+    ensures { result ≡ min (from_le_bytes w16 bytes) most }
 {
-    usize::of_bytes(bytes).min(most)
+    usize::from(u16::from_le_bytes(bytes)).min(most)
 }
 
 // A NaN has no bits to be read; no value is one.
@@ -97,12 +100,16 @@ pub struct Hash {
 }
 
 impl Hash {
-    pub fn new() -> Hash {
+    pub fn new() -> Hash
+        ensures { result.value ≡ 0 }
+    {
         Hash { value: 0 }
     }
 
     // With one word more: times 65,599 and plus the word.
-    pub fn with(self, word: u32) -> Hash {
+    pub fn with(self, word: u32) -> Hash
+        ensures { result.value ≡ (self.value * 65599 + word) % 4294967291 }
+    {
         Hash {
             value: (self.value * 65599 + u64::from(word)) % 4294967291,
         }
@@ -141,7 +148,12 @@ pub fn print_buffer<W: Write, T: Copy + Into<u32> + PartialEq>(
 ) -> io::Result<()> {
     let (front, behind) = places.split_at(count.min(places.len()));
     let kept = behind.iter().all(|place| *place == before);
-    write!(out, " {} {}", Hash::new().with_all(front).value, u8::from(kept))
+    write!(
+        out,
+        " {} {}",
+        Hash::new().with_all(front).value,
+        u8::from(kept)
+    )
 }
 
 // The fields of a palette that was found or read.
@@ -201,7 +213,23 @@ impl Blocks {
         let Some(head) = read_head::<R, 15>(input)? else {
             return Ok(None);
         };
-        let [width, height, bd, flag_room, m0, m1, s0, s1, c0, c1, l0, l1, l2, l3, again] = head;
+        let [
+            width,
+            height,
+            bd,
+            flag_room,
+            m0,
+            m1,
+            s0,
+            s1,
+            c0,
+            c1,
+            l0,
+            l1,
+            l2,
+            l3,
+            again,
+        ] = head;
         let samples = size([s0, s1], 4200);
         let costs = size([c0, c1], 560);
         if again == 0 {
@@ -221,11 +249,15 @@ impl Blocks {
         }))
     }
 
-    pub fn samples(&self, head: &BlockHead) -> &[f32] {
+    pub fn samples(&self, head: &BlockHead) -> &[f32]
+        ensures { result.now ≡ take head.now.samples self.now.samples }
+    {
         &self.samples[..head.samples]
     }
 
-    pub fn costs(&self, head: &BlockHead) -> &[f32] {
+    pub fn costs(&self, head: &BlockHead) -> &[f32]
+        ensures { result.now ≡ take head.now.costs self.now.costs }
+    {
         &self.costs[..head.costs]
     }
 }

@@ -10,121 +10,77 @@ ghost use Rattle.std.specs.Prelude.{◌<◌, ◌≤◌, ◌*◌, ◌≡◌, leng
 use std::io;
 use std::io::Write;
 
-fn level(i: usize, levels: usize) -> f32
-    requires { (0 < levels) × (levels ≤ 256) }
-{
-    ((i % levels) as u16) as f32
-}
-
 // The levels from 0 on, again and again.
 fn cycle(levels: usize) -> [f32; 512]
     requires { (0 < levels) × (levels ≤ 256) }
-    ensures { 512 ≡ length result }
 {
     let mut block = [0.0; 512];
-    for i in 0..512 {
-        block[i] = level(i, levels);
+    for (i, sample) in block.iter_mut().enumerate() {
+        *sample = f32::from((i % levels) as u8);
     }
     block
 }
 
 // Eight of one and eight of the other.
 fn halves(a: f32, b: f32) -> [f32; 16] {
-    [a, a, a, a, a, a, a, a, b, b, b, b, b, b, b, b]
+    let mut block = [a; 16];
+    block[8..].fill(b);
+    block
 }
 
 fn number(samples: &[f32], width: usize, height: usize) -> u32 {
     let costs = [0.0; 301];
     let mut map = [0u8; 512];
     let mut flags = [0u8; 64];
-    let found = palette::search(samples, width, height, 8, 1.0, &costs, &mut map, &mut flags);
-    found.number
+    palette::search(samples, width, height, 8, 1.0, &costs, &mut map, &mut flags).number
 }
 
-fn print_number<W: Write>(out: &mut W, name: &[u8], v: u32) -> io::Result<()> {
-    out.write_all(name)?;
-    writeln!(out, "{v}")
+fn print_halves<W: Write>(out: &mut W, name: &str, a: f32, b: f32) -> io::Result<()> {
+    writeln!(out, "{name}{}", number(&halves(a, b), 16, 1))
 }
 
-fn print_halves<W: Write>(out: &mut W, name: &[u8], a: f32, b: f32) -> io::Result<()> {
-    let block = halves(a, b);
-    print_number(out, name, number(&block, 16, 1))
-}
-
-fn print_cycle<W: Write>(out: &mut W, name: &[u8], levels: usize, side: usize) -> io::Result<()>
+fn print_cycle<W: Write>(out: &mut W, name: &str, levels: usize, side: usize) -> io::Result<()>
     requires { (0 < levels) × (levels ≤ 256) × (side * side ≤ 512) }
 {
     let block = cycle(levels);
-    let cells = side * side;
-    print_number(out, name, number(&block[..cells], side, side))
+    writeln!(out, "{name}{}", number(&block[..side * side], side, side))
 }
 
 // The call behind the literals of two colours: the size, three literals, and then this one. 0 where nothing is listed.
-fn fifth_call(
-    width: usize,
-    colors: [u16; 8],
-    n: usize,
-    transposed: bool,
-    map: &[u8],
-    flags: &[u8],
-) -> u32 {
-    let cache = [0u16; 0];
+fn call_behind_literals(samples: &[f32], width: usize) -> u32
+    requires { width ≤ 64 }
+{
+    let mut map = [0u8; 512];
+    let mut flags = [0u8; 64];
     let mut words = [0u32; 600];
+    let found = palette::search(samples, width, 8, 8, 1.0, &[0.0; 301], &mut map, &mut flags);
+    let lines = if found.transposed { width } else { 8 };
     palette::list(
-        width, 8, 8, colors, n, transposed, map, flags, &cache, &mut words,
+        width,
+        8,
+        8,
+        found.colors,
+        found.n,
+        found.transposed,
+        &map[..width * 8],
+        &flags[..lines],
+        &[],
+        &mut words,
     );
     words[4]
 }
 
-fn lines_of(width: usize, transposed: bool) -> usize
-    requires { width ≤ 64 }
-    ensures { result ≤ 64 }
-{
-    if transposed { width } else { 8 }
-}
-
-fn call_behind_literals(samples: &[f32], width: usize, map: &mut [u8], flags: &mut [u8]) -> u32
-    requires { (width ≤ 64) × (length map.old ≡ 512) × (length flags.old ≡ 64) }
-{
-    let costs = [0.0; 301];
-    let found = palette::search(samples, width, 8, 8, 1.0, &costs, map, flags);
-    let colors = found.colors;
-    let cells = width * 8;
-    let lines = lines_of(width, found.transposed);
-    fifth_call(
-        width,
-        colors,
-        found.n,
-        found.transposed,
-        &map[..cells],
-        &flags[..lines],
-    )
-}
-
 // A bypass call of width 1 is the orientation bit; a row call under context 3 begins the first line.
-fn print_bit<W: Write>(out: &mut W, name: &[u8], call: u32) -> io::Result<()> {
-    out.write_all(name)?;
-    if call / 65536 == 257 {
-        out.write_all(b"an orientation bit\n")
-    } else if call / 65536 == 1027 {
-        out.write_all(b"no orientation bit\n")
-    } else {
-        out.write_all(b"no list\n")
-    }
-}
-
-fn print_high_8<W: Write>(out: &mut W, name: &[u8], width: usize) -> io::Result<()>
+fn print_high_8<W: Write>(out: &mut W, name: &str, width: usize) -> io::Result<()>
     requires { width ≤ 64 }
 {
     let block = cycle(2);
-    let mut map = [0u8; 512];
-    let mut flags = [0u8; 64];
-    let cells = width * 8;
-    print_bit(
-        out,
-        name,
-        call_behind_literals(&block[..cells], width, &mut map, &mut flags),
-    )
+    let told = match call_behind_literals(&block[..width * 8], width) / 65536 {
+        257 => "an orientation bit",
+        1027 => "no orientation bit",
+        _ => "no list",
+    };
+    writeln!(out, "{name}{told}")
 }
 
 // What the search of a block of 16 by 1 gives.
@@ -138,11 +94,11 @@ struct Row {
 }
 
 // A flag that is not written stays 9.
-fn searched(block: [f32; 16], lambda: f32) -> Row {
+fn searched(block: &[f32; 16], lambda: f32) -> Row {
     let costs = [0.0; 301];
     let mut map = [0u8; 16];
     let mut flags = [9u8; 16];
-    let found = palette::search(&block, 16, 1, 8, lambda, &costs, &mut map, &mut flags);
+    let found = palette::search(block, 16, 1, 8, lambda, &costs, &mut map, &mut flags);
     let colors = found.colors;
     Row {
         n: found.n,
@@ -155,99 +111,77 @@ fn searched(block: [f32; 16], lambda: f32) -> Row {
 
 // The whole number below 1,000 that a float is, or 1,000.
 fn whole(value: f32) -> u16 {
-    for k in 0..1000u16 {
-        if (k as f32) == value {
-            return k;
-        }
-    }
-    1000
+    (0..1000).find(|k| f32::from(*k) == value).unwrap_or(1000)
 }
 
 fn print_estimate<W: Write>(out: &mut W, estimate: f32) -> io::Result<()> {
     writeln!(out, ", estimate {}", whole(estimate))
 }
 
-fn eight_at_most(n: usize) -> usize
-    ensures { result ≤ 8 }
-{
-    if n < 8 { n } else { 8 }
-}
-
-fn print_colors<W: Write>(out: &mut W, n: usize, colors: [u16; 8]) -> io::Result<()> {
-    for color in &colors[..eight_at_most(n)] {
+fn print_colors<W: Write>(out: &mut W, row: &Row) -> io::Result<()> {
+    for color in &row.colors[..row.n.min(8)] {
         write!(out, " {color}")?;
     }
     Ok(())
 }
 
-fn print_orientation<W: Write>(out: &mut W, transposed: bool) -> io::Result<()> {
-    if transposed {
-        out.write_all(b", transposed")
-    } else {
-        out.write_all(b", plain")
-    }
-}
-
 fn print_tens<W: Write>(out: &mut W) -> io::Result<()> {
-    let row = searched(halves(10.0, 20.0), 0.0);
-    let colors = row.colors;
-    out.write_all(b"eight 10s, eight 20s, lambda 0: colours")?;
-    print_colors(out, row.n, colors)?;
-    print_orientation(out, row.transposed)?;
-    write!(out, ", flag {}", row.flag)?;
+    let row = searched(&halves(10.0, 20.0), 0.0);
+    let orientation = if row.transposed {
+        "transposed"
+    } else {
+        "plain"
+    };
+    write!(out, "eight 10s, eight 20s, lambda 0: colours")?;
+    print_colors(out, &row)?;
+    write!(out, ", {orientation}, flag {}", row.flag)?;
     print_estimate(out, row.estimate)
 }
 
 fn print_ties<W: Write>(out: &mut W) -> io::Result<()> {
-    let row = searched(
-        [
-            1.0, 2.0, 2.0, 2.0, 2.0, 2.0, 2.0, 2.0, 2.0, 2.0, 2.0, 2.0, 2.0, 2.0, 2.0, 3.0,
-        ],
-        1.0,
-    );
-    let colors = row.colors;
-    out.write_all(b"1, fourteen 2s, 3: colours")?;
-    print_colors(out, row.n, colors)?;
-    out.write_all(b"\n")
+    let mut block = [2.0; 16];
+    block[0] = 1.0;
+    block[15] = 3.0;
+    write!(out, "1, fourteen 2s, 3: colours")?;
+    print_colors(out, &searched(&block, 1.0))?;
+    writeln!(out)
 }
 
 fn print_stop<W: Write>(out: &mut W) -> io::Result<()> {
-    let row = searched(
-        [
-            10.25, 10.25, 10.25, 13.5, 13.5, 13.5, 13.5, 13.5, 13.5, 11.5, 11.5, 11.5, 11.5, 11.5,
-            11.5, 11.5,
-        ],
-        0.375,
-    );
-    out.write_all(b"three 10.25s, six 13.5s, seven 11.5s, lambda 0.375: ")?;
-    write!(out, "{} colours", row.n)?;
+    let mut block = [11.5; 16];
+    block[..3].fill(10.25);
+    block[3..9].fill(13.5);
+    let row = searched(&block, 0.375);
+    write!(
+        out,
+        "three 10.25s, six 13.5s, seven 11.5s, lambda 0.375: {} colours",
+        row.n
+    )?;
     print_estimate(out, row.estimate)
 }
 
 // The smallest block on which another size won where the float unit takes subnormal numbers for 0.
 fn print_narrowed<W: Write>(out: &mut W) -> io::Result<()> {
-    let row = searched(
-        [
-            18.5, 17.75, 16.0, 16.0, 16.0, 16.0, 17.75, 16.0, 16.0, 16.0, 16.0, 16.0, 16.0, 17.75,
-            16.0, 16.0,
-        ],
-        0.0,
-    );
-    let colors = row.colors;
-    out.write_all(b"18.5, three 17.75s, twelve 16s, lambda 0: colours")?;
-    print_colors(out, row.n, colors)?;
+    let mut block = [16.0; 16];
+    block[0] = 18.5;
+    block[1] = 17.75;
+    block[6] = 17.75;
+    block[13] = 17.75;
+    let row = searched(&block, 0.0);
+    write!(out, "18.5, three 17.75s, twelve 16s, lambda 0: colours")?;
+    print_colors(out, &row)?;
     print_estimate(out, row.estimate)
 }
 
 fn main(rt: HostRuntime) -> io::Result<()> {
     let mut out = rt.stdout();
-    print_halves(&mut out, b"10.0 and 10.4 only: ", 10.0, 10.4)?;
-    print_cycle(&mut out, b"32 levels: ", 32, 16)?;
-    print_cycle(&mut out, b"33 levels: ", 33, 16)?;
-    print_cycle(&mut out, b"15 by 15: ", 2, 15)?;
-    print_halves(&mut out, b"16 by 1: ", 10.0, 20.0)?;
-    print_high_8(&mut out, b"64 by 8: ", 64)?;
-    print_high_8(&mut out, b"63 by 8: ", 63)?;
+    print_halves(&mut out, "10.0 and 10.4 only: ", 10.0, 10.4)?;
+    print_cycle(&mut out, "32 levels: ", 32, 16)?;
+    print_cycle(&mut out, "33 levels: ", 33, 16)?;
+    print_cycle(&mut out, "15 by 15: ", 2, 15)?;
+    print_halves(&mut out, "16 by 1: ", 10.0, 20.0)?;
+    print_high_8(&mut out, "64 by 8: ", 64)?;
+    print_high_8(&mut out, "63 by 8: ", 63)?;
     print_tens(&mut out)?;
     print_ties(&mut out)?;
     print_stop(&mut out)?;

@@ -10,6 +10,8 @@ use Rattle.asking.proofs.walk.Goals as goal
 pub returns-then-cost-lambda-clause-built : goal.returns-then-cost-lambda-clause-built
 returns-then-cost-lambda-clause-built c =
     let a = c.args in
+    let s = a.search.now in
+    let p = s.pricing.now in
     let l = c.loop-l in
     let chosen = c.choose_from-c in
     let put = chosen.new.map in
@@ -19,18 +21,20 @@ returns-then-cost-lambda-clause-built c =
       map = put;
       flags = set l.flags l.l chosen.result.flag;
       ctx = chosen.result.flag;
-      cost = c.plus-cost.result;
+      cost = c.add-cost.result;
     } in
-    let line = turned a.src.now a.costs.now a.colors.now a.n a.lambda a.s a.head a.bound
-    c.requires.le_n.0 c.requires.le_n.1 a.s.lines l.l walk chosen.result put c.plus-cost.result
-    c.loop-l-test.true l.invariant.3 chosen.ensures.value chosen.ensures.map_after c.plus-cost.ensures in
-    let past : reached a.src.now a.costs.now a.colors.now a.n a.lambda a.s a.head a.bound longer ≡ true =
+    let line = turned s.samples.now p.costs.now p.colors p.n p.lambda s.scan a.head a.bound
+    p.few.0 p.few.1 s.scan.lines l.l walk chosen.result put c.add-cost.result
+    c.loop-l-test.true l.invariant.3 chosen.ensures.value chosen.ensures.map_after c.add-cost.ensures in
+    let past : reached s.samples.now p.costs.now p.colors p.n p.lambda s.scan a.head a.bound longer ≡ true =
     c.if-cost-lambda.true in
     rw (sym l.invariant.0 ∙ line.rest_same, past) (record { result = refl; cells = refl; signs = refl })
 
 pub returns-then-cost-lambda-clause-asked_once : goal.returns-then-cost-lambda-clause-asked_once
 returns-then-cost-lambda-clause-asked_once c =
     let a = c.args in
+    let s = a.search.now in
+    let p = s.pricing.now in
     let l = c.loop-l in
     let chosen = c.choose_from-c in
     let put = chosen.new.map in
@@ -39,22 +43,24 @@ returns-then-cost-lambda-clause-asked_once c =
       map = put;
       flags = set l.flags l.l chosen.result.flag;
       ctx = chosen.result.flag;
-      cost = c.plus-cost.result;
+      cost = c.add-cost.result;
     } in
-    let past : reached a.src.now a.costs.now a.colors.now a.n a.lambda a.s a.head a.bound longer ≡ true =
+    let past : reached s.samples.now p.costs.now p.colors p.n p.lambda s.scan a.head a.bound longer ≡ true =
     c.if-cost-lambda.true in
-    let reaches = sym l.invariant.6
-    ∙ reached_more a.src.now a.costs.now a.colors.now a.n a.lambda a.s a.head a.bound a.s.lines l.l walk longer
+    let reaches = sym l.invariant.5
+    ∙ reached_more s.samples.now p.costs.now p.colors p.n p.lambda s.scan a.head a.bound s.scan.lines l.l walk longer
     c.loop-l-test.true
-    (next_by a.src.now a.costs.now a.colors.now a.n a.lambda a.s walk l.l chosen.result put c.plus-cost.result
-    chosen.ensures.value chosen.ensures.map_after c.plus-cost.ensures) in
+    (next_by s.samples.now p.costs.now p.colors p.n p.lambda s.scan walk l.l chosen.result put c.add-cost.result
+    chosen.ensures.value chosen.ensures.map_after c.add-cost.ensures) in
     let asked = c.ask-asked.ensures.first_value in
-    let one_later = asked.1 ∙ asked_more _ l.l l.invariant.8 in
-    rw (reaches, past) (record { reached = refl; first = asked.0 ∙ l.invariant.7; later = omega (arith, one_later) })
+    let one_later = asked.1 ∙ asked_more _ l.l l.invariant.7 in
+    rw (reaches, past) (record { reached = refl; first = asked.0 ∙ l.invariant.6; later = omega (arith, one_later) })
 
 pub loop-l-preserved : goal.loop-l-preserved
 loop-l-preserved c =
     let a = c.args in
+    let s = a.search.now in
+    let p = s.pricing.now in
     let l = c.loop-l in
     let i = l.invariant in
     let chosen = c.choose_from-c in
@@ -64,47 +70,50 @@ loop-l-preserved c =
       map = put;
       flags = set l.flags l.l chosen.result.flag;
       ctx = chosen.result.flag;
-      cost = c.plus-cost.result;
+      cost = c.add-cost.result;
     } in
-    let line = turned a.src.now a.costs.now a.colors.now a.n a.lambda a.s a.head a.bound
-    c.requires.le_n.0 c.requires.le_n.1 a.s.lines l.l walk chosen.result put c.plus-cost.result
-    c.loop-l-test.true i.3 chosen.ensures.value chosen.ensures.map_after c.plus-cost.ensures in
-    let below : reached a.src.now a.costs.now a.colors.now a.n a.lambda a.s a.head a.bound longer ≡ false =
+    let line = turned s.samples.now p.costs.now p.colors p.n p.lambda s.scan a.head a.bound
+    p.few.0 p.few.1 s.scan.lines l.l walk chosen.result put c.add-cost.result
+    c.loop-l-test.true i.3 chosen.ensures.value chosen.ensures.map_after c.add-cost.ensures in
+    let below : reached s.samples.now p.costs.now p.colors p.n p.lambda s.scan a.head a.bound longer ≡ false =
     c.if-cost-lambda.false in
-    let reaches = sym i.6
-    ∙ reached_more a.src.now a.costs.now a.colors.now a.n a.lambda a.s a.head a.bound a.s.lines l.l walk longer
+    let reaches = sym i.5
+    ∙ reached_more s.samples.now p.costs.now p.colors p.n p.lambda s.scan a.head a.bound s.scan.lines l.l walk longer
     c.loop-l-test.true
-    (next_by a.src.now a.costs.now a.colors.now a.n a.lambda a.s walk l.l chosen.result put c.plus-cost.result
-    chosen.ensures.value chosen.ensures.map_after c.plus-cost.ensures) in
+    (next_by s.samples.now p.costs.now p.colors p.n p.lambda s.scan walk l.l chosen.result put c.add-cost.result
+    chosen.ensures.value chosen.ensures.map_after c.add-cost.ensures) in
     let asked = c.ask-asked.ensures.first_value in
-    let one_later = asked.1 ∙ asked_more _ l.l i.8 in (
-      rw c.wide-ctx.ensures (sym (sym i.0 ∙ line.rest_same ∙ rw below refl)),
+    let one_later = asked.1 ∙ asked_more _ l.l i.7 in (
+      rw c.from-ctx.ensures (sym (sym i.0 ∙ line.rest_same ∙ rw below refl)),
       line.map_kept ∙ i.1,
       line.flags_kept ∙ i.2,
       line.below,
-      rw c.wide-ctx.ensures (omega (arith, line.context)),
-      omega (arith, c.loop-l-test.true),
-      rw c.wide-ctx.ensures (sym (reaches ∙ rw below refl)),
-      asked.0 ∙ i.7,
+      rw c.from-ctx.ensures (omega (arith, line.context)),
+      rw c.from-ctx.ensures (sym (reaches ∙ rw below refl)),
+      asked.0 ∙ i.6,
       omega (arith, one_later),
     )
 
 pub returns-clause-built : goal.returns-clause-built
 returns-clause-built c =
     let a = c.args in
+    let s = a.search.now in
+    let p = s.pricing.now in
     let l = c.loop-l in
     let walked : Walk = record { map = l.map; flags = l.flags; ctx = l.ctx; cost = l.cost } in
     rw
     (sym l.invariant.0
-    ∙ rest_none a.src.now a.costs.now a.colors.now a.n a.lambda a.s a.head a.bound
-    a.s.lines l.l walked c.loop-l-test.false)
+    ∙ rest_none s.samples.now p.costs.now p.colors p.n p.lambda s.scan a.head a.bound
+    s.scan.lines l.l walked c.loop-l-test.false)
     (record { result = refl; cells = refl; signs = refl })
 
 pub returns-clause-asked_once : goal.returns-clause-asked_once
 returns-clause-asked_once c =
     let a = c.args in
+    let s = a.search.now in
+    let p = s.pricing.now in
     let l = c.loop-l in
     let walked : Walk = record { map = l.map; flags = l.flags; ctx = l.ctx; cost = l.cost } in
-    let all = sym l.invariant.6 ∙ reached_all a.src.now a.costs.now a.colors.now a.n a.lambda a.s a.head a.bound
-    a.s.lines l.l walked c.loop-l-test.false in
-    rw all (record { reached = refl; first = l.invariant.7; later = l.invariant.8 })
+    let all = sym l.invariant.5 ∙ reached_all s.samples.now p.costs.now p.colors p.n p.lambda s.scan a.head a.bound
+    s.scan.lines l.l walked c.loop-l-test.false in
+    rw all (record { reached = omega (arith, c.loop-l-test.false); first = l.invariant.6; later = l.invariant.7 })

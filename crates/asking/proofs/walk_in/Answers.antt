@@ -1,11 +1,14 @@
 use Rattle.search.proofs.Passed.{ready_of}
-use Rattle.search.proofs.Tries.{buildable}
+use Rattle.search.proofs.Tries.{priced, scanned, buildable}
 use Rattle.asking.proofs.walk_in.Goals as goal
+
+pub invariant_of-search : goal.invariant_of-search
+invariant_of-search c =
+    record { sound = scanned (ready_of (record { zero = c.args.trial.now.task.now.passed })) c.args.transposed _ c.new.ensures }
 
 pub walk-requires : goal.walk-requires
 walk-requires c =
-    let passed = c.requires.passed in
-    let zeros = c.requires.cells_value in
-    let rest = buildable (ready_of passed.0) c.args.transposed _ passed.1 passed.2 _ _ _
-    c.scan_of-s.ensures zeros.0 zeros.1 in
-    record { sound = rest.0; le_n = (rest.1.0, rest.1.1, rest.1.2, rest.1.3, rest.1.4, zeros.2, zeros.3.sure) }
+    let a = c.args.trial.now in
+    let ready = ready_of (record { zero = a.task.now.passed }) in
+    let fits = buildable ready c.args.transposed c.requires _ a.pricing.few.0 _ c.new.ensures in
+    (fits.0, fits.1, fits.2, fits.3, rw (a.priced.0, a.priced.1) (priced ready))

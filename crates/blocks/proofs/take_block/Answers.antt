@@ -1,12 +1,11 @@
 use native.Mathlib.Omega.{arith}
 use borrow.Author.Tests.{ne_eqb}
 use mathlib.Core.Path.{◌≡◌, refl, sym, ap, ◌∙◌}
-use Rattle.refusals.specs.Numbers.{number_of}
 use Rattle.text.specs.declared.Places.{Places}
 use Rattle.text.specs.Text.{header_at, text_number}
 use Rattle.text.proofs.Sound.{number_ne}
 use Rattle.blocks.specs.declared.Block.{Block}
-use Rattle.blocks.specs.Block.{block_of, refused_block}
+use Rattle.blocks.specs.Block.{refused_block}
 use Rattle.blocks.proofs.Few.{with_few}
 use Rattle.blocks.proofs.Read.{block_refused, block_read}
 use Rattle.blocks.proofs.take_block.Goals as goal

@@ -1,6 +1,6 @@
-use Rattle.std.proofs.Common.{◌≡◌, ℕ, ◌-◌, ◌≤◌, List, length, drop, take, sym, ap, ◌∙◌, arith}
+use Rattle.std.proofs.Common.{◌-◌, ◌≤◌, length, drop, take, sym, ◌∙◌, arith}
 use native.Mathlib.Nat.{zero-add}
-use Rattle.lists.specs.Written.{written, front}
+use Rattle.lists.specs.Written.{front}
 use Rattle.lists.proofs.Written.{written_front}
 use Rattle.window.proofs.Kept.{lent, length_moved}
 use Rattle.window.proofs.move_down.Goals as goal
