@@ -1,5 +1,6 @@
 // The words of a palette's colours and of its index map, one after the other into a lent buffer. These functions serve the
 // listing, which has tested everything that they require.
+// Stays (5): `out` with `at`, as in `literals`: a writer is no plainer, since contracts name the whole buffer before and after.
 #![tactic(auto)]
 
 ghost use Rattle.std.specs.Prelude.{◌≡◌, true, false, [], ◌∷◌, ℕ, ◌+◌, ◌-◌, ◌*◌, ◌/◌, ◌%◌, ◌≤◌, ◌<◌, eqb, length, take, get_or};
@@ -105,7 +106,7 @@ pub fn emit_colors(colors: &[u16], bd: u32, cache: &[u16], out: &mut [u32], at: 
 fn is_corner(y: usize, x: usize) -> bool
     ensures { result ≡ eqb (y + x) 0 }
 {
-    (y == 0) & (x == 0)
+    y == 0 && x == 0
 }
 
 // How many cells a line sends: all, one or none.
@@ -124,7 +125,7 @@ fn sent_cells(flag: u8, len: usize) -> usize
 fn by_cells(l: usize, count: usize) -> bool
     ensures { result ≡ false → (0 < l) × (2 ≤ count) × (count ≤ 64) }
 {
-    (l == 0) | (count < 2) | (64 < count)
+    l == 0 || count < 2 || 64 < count
 }
 
 // The place of a cell's code in the table: its row's, and its index.

@@ -22,7 +22,7 @@ use refusals::Refusal;
 
 // The answer: number 0 with the count of words and their raw width, or a refusal with zeros.
 // Stays (1): `palette::list` and `station` hand these three fields on to C.
-#[derive(Drop)]
+#[derive(Clone, Copy)]
 pub struct Listed {
     pub number: u32,
     pub count: usize,
@@ -37,6 +37,7 @@ struct Made {
 }
 
 // What one call adds to the raw width.
+#[tactic(auto, unfolding(literals::specs::Words::raw_bits))]
 fn raw_bits(word: u32) -> u32
     ensures { (result ≡ raw_bits word) × (result ≤ 255) }
 {
@@ -50,6 +51,7 @@ fn raw_bits(word: u32) -> u32
 }
 
 // The raw width of words.
+#[tactic(auto, unfolding(literals::specs::Words::raw_width_of))]
 fn raw_width(words: &[u32]) -> u32
     requires { length words.now ≤ 65536 }
     ensures { (result ≡ raw_width_of words.now) × (result ≤ 255 * length words.now) }

@@ -3,9 +3,6 @@ use lib.ListN.{drop_of_length-le}
 use Rattle.literals.specs.Words.{raw_width_of}
 use Rattle.listing.proofs.raw_width.Goals as goal
 
-pub loop-word-init : goal.loop-word-init
-loop-word-init c = (omega arith, omega arith)
-
 pub loop-word-preserved : goal.loop-word-preserved
 unfolding raw_width_of
 loop-word-preserved c =
