@@ -2,7 +2,7 @@
 // Open to the crates above only: functions may require a header without faults, or room.
 #![tactic(auto)]
 
-ghost use Rattle.std.specs.Prelude.{◌≡◌, ◌+◌, ◌*◌, ◌<◌, ◌≤◌, IfOk, OnErr};
+ghost use Rattle.std.specs.Prelude.{◌≡◌, ◌+◌, ◌*◌, ◌<◌, ◌≤◌, replicate, IfOk, OnErr};
 ghost use Rattle.lists.specs.Written.{written};
 ghost use Rattle.fields.specs.Fields.{cut};
 ghost use Rattle.refusals.specs.Numbers.{number};
@@ -33,7 +33,10 @@ pub struct Numbers {
 }
 
 impl Numbers {
-    pub fn new() -> Numbers {
+    pub fn new() -> Numbers
+        ensures { (result.colors ≡ replicate 8 0) × (result.cache ≡ replicate 64 0) × (result.flags ≡ replicate 64 0)
+            × (result.map ≡ replicate 4096 0) }
+    {
         Numbers {
             colors: [0; 8],
             cache: [0; 64],

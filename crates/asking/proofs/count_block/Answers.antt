@@ -1,5 +1,4 @@
 use mathlib.Core.Path.{sym}
-use Rattle.search.specs.Steps.{Passed}
 use Rattle.search.proofs.Passed.{ready_of, countable, levels_of_zero}
 use Rattle.asking.proofs.count_block.Goals as goal
 
