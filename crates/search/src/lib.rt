@@ -129,6 +129,7 @@ impl BestMap {
         let lines = context::lines_of(best.transposed, b.width, b.height);
         lists::copy_front(&self.cells, b.width * b.height, map);
         lists::copy_front(&self.lines, lines, flags);
+        // Stays (4): an array's field that is laid in a value straight gets no proof.
         let colors = best.colors;
         Palette {
             number: 0,
@@ -225,7 +226,7 @@ impl<'a> Trial<'a> {
         if let Some(cost) = self.map_in(transposed, kept.best.total, cells, lines) {
             let z = self.size;
             let all = z.head + cost.rate;
-            // Stays (4): an array's field that is laid in a value straight gets no proof; so below.
+            // Stays (4): an array's field that is laid in a value straight gets no proof.
             let colors = z.colors;
             let next = Best {
                 total: cost.dist + self.task.sizes.block.lambda * all,
