@@ -71,6 +71,7 @@ fn places_of(sides: &[usize]) -> Places
 }
 
 // The first of 19, 1, 3 and 7 that applies.
+#[tactic(auto, using(crate::proofs::Sides::all_is), unfolding(crate::specs::Strip::strip_number))]
 fn fault(sides: &[usize], samples: usize, cells: usize, lines: usize) -> Result<(), Refusal>
     ensures { number result ≡ strip_number sides.now samples cells lines }
 {
@@ -84,10 +85,7 @@ fn fault(sides: &[usize], samples: usize, cells: usize, lines: usize) -> Result<
     if samples != all.cells {
         return Err(Refusal::SampleCount);
     }
-    if cells < all.cells {
-        return Err(Refusal::Room);
-    }
-    if lines < all.lines {
+    if cells < all.cells || lines < all.lines {
         return Err(Refusal::Room);
     }
     Ok(())
