@@ -281,8 +281,8 @@ impl Coder<'_> {
 
     // The word of the code at a key.
     fn word_at(&self, key: u16) -> u32
-        requires { (key < 4096) × (get_or self.now.codes.now.table key 0 < 40) }
-        ensures { result ≡ get_or self.now.words.now (get_or self.now.codes.now.table key 0) 0 }
+        requires { (key < 4096) × (get_or self.now.codes.now.table.now key 0 < 40) }
+        ensures { result ≡ get_or self.now.words.now (get_or self.now.codes.now.table.now key 0) 0 }
     {
         let code = self.codes.table[usize::from(key)];
         self.words[usize::from(code)]
@@ -291,8 +291,8 @@ impl Coder<'_> {
     // The words of the cells from `from` to before `to` of a line, by their keys.
     fn emit_keys(&self, keys: &[u16], from: usize, to: usize, out: &mut [u32], at: usize)
         requires { (from ≤ to) × (to ≤ length keys.now) × (at + to ≤ length out.old)
-            × (Readable self.now.codes.now.table keys.now from to) }
-        ensures { Extends (word_by self.now.codes.now.table self.now.words.now keys.now) from to at out.old out.new }
+            × (Readable self.now.codes.now.table.now keys.now from to) }
+        ensures { Extends (word_by self.now.codes.now.table.now self.now.words.now keys.now) from to at out.old out.new }
     {
         for a in from..to {
             out[at + a] = self.word_at(keys[a]);

@@ -46,7 +46,7 @@ impl Guess<'_> {
         requires { row < 1024 }
     {
         let at = usize::from(row) * 8;
-        let t = &self.nexts.table;
+        let t = self.nexts.table;
         u64::from_le_bytes([
             t[at],
             t[at + 1],

@@ -20,7 +20,7 @@ module _ (s : Coder) (keys : List ℕ) (l count : ℕ) (first : 0 < l) (held : K
   map = s.map.cells.now
 
   abbrev codes : List ℕ
-  codes = s.codes.now.table
+  codes = s.codes.now.table.now
 
   abbrev y : ℕ
   y = row_at s.map.transposed l b
@@ -51,7 +51,7 @@ module _ (s : Coder) (keys : List ℕ) (l count : ℕ) (first : 0 < l) (held : K
 
 -- all of them
 readable : (s : Coder) (keys : List ℕ) (l count : ℕ) → 0 < l → KeysIn s.map.cells.now s.map.w s.map.transposed l count keys
-    → (from to : ℕ) → 1 ≤ from → to ≤ count → Readable s.codes.now.table keys from to
+    → (from to : ℕ) → 1 ≤ from → to ≤ count → Readable s.codes.now.table.now keys from to
 readable s keys l count first held from to p q b u v =
     (near s keys l count first held b (omega arith) (omega arith), code s keys l count first held b (omega arith) (omega arith))
 

@@ -6,7 +6,7 @@ use Rattle.emit.proofs.Coder.emit_keyed.Given as goal
 abbrev pub invariant-loop-a : goal.invariant-loop-a
 invariant-loop-a l =
     (1 ≤ l.a) × (l.a ≤ l.count) × (length l.out ≡ length l.initial.out)
-    × (Extends (word_by l.self.codes.now.table l.self.words.now l.keys) 1 l.a l.at l.initial.out l.out)
+    × (Extends (word_by l.self.codes.now.table.now l.self.words.now l.keys) 1 l.a l.at l.initial.out l.out)
 
 abbrev pub decreases-loop-a : goal.decreases-loop-a
 decreases-loop-a l = l.count - l.a
