@@ -218,12 +218,12 @@ impl Mapped<'_> {
     }
 }
 
-// Zeros in every field.
-pub fn blank() -> Palette
-    ensures { result ≡ refused_by 0 }
+// A number beside zeros.
+pub fn refused(number: u32) -> Palette
+    ensures { result ≡ refused_by number }
 {
     Palette {
-        number: 0,
+        number,
         transposed: false,
         n: 0,
         colors: [0u16; 8],
@@ -232,12 +232,16 @@ pub fn blank() -> Palette
     }
 }
 
+// Zeros in every field.
+pub fn blank() -> Palette
+    ensures { result ≡ refused_by 0 }
+{
+    refused(0)
+}
+
 // A refusal: zeros beside its number.
 pub fn refuse(refusal: Refusal) -> Palette
     ensures { result ≡ refused_by (number_of refusal) }
 {
-    Palette {
-        number: refusal.number(),
-        ..blank()
-    }
+    refused(refusal.number())
 }

@@ -142,15 +142,13 @@ fn walk_in(
     cells: &mut [u8],
     lines: &mut [u8],
 ) -> Walked
-    requires { Zeros trial.now.task.now.sizes.block transposed cells.old lines.old }
+    requires { Zeros trial.now.block transposed cells.old lines.old }
 {
-    let task = trial.task;
-    let b = task.sizes.block;
     let search = Search {
-        samples: task.samples,
-        scan: Scan::new(b.width, b.height, transposed),
+        samples: trial.samples,
+        scan: Scan::new(trial.block.width, trial.block.height, transposed),
         pricing: &trial.pricing,
-        tables: task.tables,
+        tables: trial.tables,
     };
     walk(&search, trial.size.head, bound, cells, lines)
 }
@@ -177,7 +175,7 @@ fn count_scan<W: Write>(
     transposed: bool,
     bound: f32,
 ) -> io::Result<f32> {
-    let b = trial.task.sizes.block;
+    let b = trial.block;
     let count = context::lines_of(transposed, b.width, b.height);
     let mut cells = [0u8; 4096];
     let mut lines = [0u8; 64];

@@ -15,7 +15,7 @@ use Rattle.literals.specs.Words.{word}
 use Rattle.refusals.specs.declared.Refusal.{Refusal}
 use Rattle.refusals.specs.Numbers.{number_of}
 use Rattle.reader.specs.Steps.{told}
-use Rattle.reader.specs.Reader.{Got, got, fault, after, Reader, is_due, due, read_up_to}
+use Rattle.reader.specs.Reader.{Got, got, fault, after, ret, Reader, is_due, due, read_up_to}
 
 -- ---- the three answers of a step
 
@@ -43,6 +43,28 @@ module _ (ws : List ℕ) (at kind first limit : ℕ) where
     pub step_above : least ≤ c → limit ≤ c - least → due kind first limit (drop at ws) ≡ fault 21
     unfolding is_due word
     step_above k l = at_word ∙ rw (le-leb least c k, le-ltb c (word kind first limit) (omega arith)) refl
+
+-- ---- what a result tells
+
+pub told_made : {A B C : Type 0} (f : C → A) (r : Result C Refusal) (ws : List ℕ) (g : A → B)
+    → after (told f r ws) (λ x. ret (g x)) ≡ told (λ c. g (f c)) r ws
+told_made f (Ok c) ws g = refl
+told_made f (Err e) ws g = refl
+
+-- after a refusal no more is read, whatever value stands beside it
+pub told_fault : {A B C : Type 0} (f : C → A) (r : Result C Refusal) (ws : List ℕ) (g : A → Reader B) (b : C → B) (e : Refusal) → r ≡ Err e
+    → after (told f r ws) g ≡ told b r ws
+told_fault f r ws g b e h = rw h refl
+
+pub told_next : {A B C : Type 0} (f : C → A) (r : Result C Refusal) (ws : List ℕ) (g : A → Reader B) (c : C) → r ≡ Ok c
+    → after (told f r ws) g ≡ g (f c) ws
+told_next f r ws g c h = rw h refl
+
+pub told_got : {A C : Type 0} (f : C → A) (r : Result C Refusal) (ws : List ℕ) (c : C) → r ≡ Ok c → told f r ws ≡ got (f c) ws
+told_got f r ws c h = rw h refl
+
+pub told_any : {A C : Type 0} (f g : C → A) (r : Result C Refusal) (ws : List ℕ) (e : Refusal) → r ≡ Err e → told f r ws ≡ told g r ws
+told_any f g r ws e h = rw h refl
 
 -- ---- readers in a loop
 

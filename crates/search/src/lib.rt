@@ -2,7 +2,7 @@
 // have a `requires`.
 #![tactic(auto)]
 
-ghost use Rattle.std.specs.Prelude.{◌≡◌, map, ◌*◌, ◌≤◌, length};
+ghost use Rattle.std.specs.Prelude.{◌≡◌, List, map, ◌*◌, ◌≤◌, length, Float};
 ghost use Rattle.std.specs.Float.{binary32};
 ghost use Rattle.refusals.specs.Numbers.{number};
 ghost use Rattle.ieee.specs.Numbers.{nat};
@@ -67,6 +67,39 @@ pub fn levels_fault(levels: usize) -> Result<(), Refusal>
     }
     if 32 < levels {
         return Err(Refusal::ManyLevels);
+    }
+    Ok(())
+}
+
+// The first of the numbers 1 to 8 that applies; `price` is what was said of lambda and costs, 4 or 5.
+pub fn fault(
+    samples: &[f32],
+    b: Block,
+    price: Result<(), Refusal>,
+    cells: usize,
+    lines: usize,
+) -> Result<(), Refusal>
+    ensures { (costs : List Float) → number price ≡ price_fault b.lambda costs
+        → number result ≡ fault_of samples.now costs b cells lines }
+{
+    if !accept::sides_ok(b.width, b.height) {
+        return Err(Refusal::Side);
+    }
+    if !accept::within(8, 12, b.bd as usize) {
+        return Err(Refusal::Depth);
+    }
+    if samples.len() != b.width * b.height {
+        return Err(Refusal::SampleCount);
+    }
+    price?;
+    if !samples::samples_ok(samples, b.bd) {
+        return Err(Refusal::Sample);
+    }
+    if !accept::rooms_ok(b.width, b.height, cells, lines) {
+        return Err(Refusal::Room);
+    }
+    if !large_ok(b.width, b.height) {
+        return Err(Refusal::Small);
     }
     Ok(())
 }
@@ -164,7 +197,7 @@ impl Task<'_> {
             if lbs[k] >= kept.best.total {
                 return;
             }
-            Trial::new(&*self, self.sizes.size_of(k)).both(kept);
+            Trial::new(self, self.sizes.size_of(k)).both(kept);
             left[k] = false;
         }
     }
@@ -173,24 +206,31 @@ impl Task<'_> {
 // A size of a block, and what is made once for both its maps.
 #[derive(Drop)]
 pub struct Trial<'a> {
-    pub task: &'a Task<'a>,
+    pub samples: &'a [f32],
+    pub block: Block,
     pub size: Size,
     pub pricing: Pricing<'a>,
-    pub ghost priced: { (pricing.costs.now ≡ task.now.sizes.costs.now) × (pricing.lambda ≡ task.now.sizes.block.lambda)
-        × (pricing.n ≡ size.n) × (pricing.colors ≡ map (nat binary32) size.colors) },
+    pub tables: &'a Tables,
+    pub ghost passed: { fault_of samples.now pricing.costs.now block 4096 64 ≡ 0 },
+    pub ghost sides: { (block.width ≤ 64) × (block.height ≤ 64) },
+    pub ghost priced: { (pricing.lambda ≡ block.lambda) × (pricing.n ≡ size.n)
+        × (pricing.colors ≡ map (nat binary32) size.colors) },
 }
 
 impl<'a> Trial<'a> {
-    pub fn new(task: &'a Task<'a>, size: Size) -> Self
+    pub fn new(task: &Task<'a>, size: Size) -> Self
         requires { (2 ≤ size.n) × (size.n ≤ 8) }
-        ensures { (result.task.now ≡ task.now) × (result.size ≡ size) }
+        ensures { (result.samples.now ≡ task.now.samples.now) × (result.pricing.costs.now ≡ task.now.sizes.costs.now)
+            × (result.block ≡ task.now.sizes.block) × (result.size ≡ size) }
     {
         let sizes = task.sizes;
         let colors = values(size.colors);
         Trial {
-            task,
+            samples: task.samples,
+            block: sizes.block,
             size,
             pricing: Pricing::new(sizes.costs, colors, size.n, sizes.block.lambda),
+            tables: task.tables,
         }
     }
 
@@ -202,26 +242,24 @@ impl<'a> Trial<'a> {
         cells: &mut [u8],
         lines: &mut [u8],
     ) -> Option<Cost>
-        requires { Zeros self.now.task.now.sizes.block transposed cells.old lines.old }
-        ensures { let t = self.now.task.now in
-            Built (map_in t.samples.now t.sizes.costs.now t.sizes.block self.now.size transposed bound) result cells.new lines.new }
+        requires { Zeros self.now.block transposed cells.old lines.old }
+        ensures { let t = self.now in
+            Built (map_in t.samples.now t.pricing.costs.now t.block t.size transposed bound) result cells.new lines.new }
     {
-        let task = self.task;
-        let b = task.sizes.block;
         let search = Search {
-            samples: task.samples,
-            scan: Scan::new(b.width, b.height, transposed),
+            samples: self.samples,
+            scan: Scan::new(self.block.width, self.block.height, transposed),
             pricing: &self.pricing,
-            tables: task.tables,
+            tables: self.tables,
         };
         search.build_map(self.size.head, bound, cells, lines)
     }
 
     // As `one`, with the map made in cells and lines, which are zeros and just as many as it needs.
     fn one_in(&self, transposed: bool, cells: &mut [u8], lines: &mut [u8], kept: &mut BestMap)
-        requires { Zeros self.now.task.now.sizes.block transposed cells.old lines.old }
-        ensures { let t = self.now.task.now in (s : Standing) → Stands s kept.old
-            → Stands (tried t.samples.now t.sizes.costs.now t.sizes.block self.now.size transposed s) kept.new }
+        requires { Zeros self.now.block transposed cells.old lines.old }
+        ensures { let t = self.now in (s : Standing) → Stands s kept.old
+            → Stands (tried t.samples.now t.pricing.costs.now t.block t.size transposed s) kept.new }
     {
         if let Some(cost) = self.map_in(transposed, kept.best.total, cells, lines) {
             let z = self.size;
@@ -229,7 +267,7 @@ impl<'a> Trial<'a> {
             // Stays (4): an array's field that is laid in a value straight gets no proof.
             let colors = z.colors;
             let next = Best {
-                total: cost.dist + self.task.sizes.block.lambda * all,
+                total: cost.dist + self.block.lambda * all,
                 n: z.n,
                 colors,
                 transposed,
@@ -242,10 +280,10 @@ impl<'a> Trial<'a> {
 
     // One orientation.
     fn one(&self, transposed: bool, kept: &mut BestMap)
-        ensures { let t = self.now.task.now in (s : Standing) → Stands s kept.old
-            → Stands (tried t.samples.now t.sizes.costs.now t.sizes.block self.now.size transposed s) kept.new }
+        ensures { let t = self.now in (s : Standing) → Stands s kept.old
+            → Stands (tried t.samples.now t.pricing.costs.now t.block t.size transposed s) kept.new }
     {
-        let b = self.task.sizes.block;
+        let b = self.block;
         let count = context::lines_of(transposed, b.width, b.height);
         let mut cells = [0u8; 4096];
         let mut lines = [0u8; 64];
@@ -259,10 +297,10 @@ impl<'a> Trial<'a> {
 
     // Plain, and then transposed.
     fn both(&self, kept: &mut BestMap)
-        ensures { let t = self.now.task.now in (s : Standing) → Stands s kept.old
-            → Stands (tried_both t.samples.now t.sizes.costs.now t.sizes.block self.now.size s) kept.new }
+        ensures { let t = self.now in (s : Standing) → Stands s kept.old
+            → Stands (tried_both t.samples.now t.pricing.costs.now t.block t.size s) kept.new }
     {
-        let b = self.task.sizes.block;
+        let b = self.block;
         self.one(false, kept);
         if counts::orient_sent(b.width, b.height) {
             self.one(true, kept);
@@ -285,27 +323,7 @@ impl Asked<'_> {
     pub fn fault(&self, cells: usize, lines: usize) -> Result<(), Refusal>
         ensures { number result ≡ fault_of self.now.samples.now self.now.costs.now self.now.block cells lines }
     {
-        let b = self.block;
-        if !accept::sides_ok(b.width, b.height) {
-            return Err(Refusal::Side);
-        }
-        if !accept::within(8, 12, b.bd as usize) {
-            return Err(Refusal::Depth);
-        }
-        if self.samples.len() != b.width * b.height {
-            return Err(Refusal::SampleCount);
-        }
-        self.price?;
-        if !samples::samples_ok(self.samples, b.bd) {
-            return Err(Refusal::Sample);
-        }
-        if !accept::rooms_ok(b.width, b.height, cells, lines) {
-            return Err(Refusal::Room);
-        }
-        if !large_ok(b.width, b.height) {
-            return Err(Refusal::Small);
-        }
-        Ok(())
+        fault(self.samples, self.block, self.price, cells, lines)
     }
 
     // The levels, or the first of the numbers 1 to 10 that applies.

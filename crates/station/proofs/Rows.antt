@@ -1,15 +1,15 @@
 -- The answers of a strip in rows and in pairs, one behind the other. Assumes nothing.
 use mathlib.Core.Path.{◌≡◌, refl, sym, ap, ◌∙◌}
 use mathlib.Core.Bool.{Bool, true, false}
-use mathlib.Core.List.{List, ◌++◌}
+use mathlib.Core.List.{List, [], ◌∷◌, ◌++◌, append_assoc}
 use Prim.Native.Nat.{ℕ, ◌+◌, ◌-◌, ◌*◌, ◌≤◌, ◌<◌}
 use native.Mathlib.Nat.{le_of_eq}
-use native.Mathlib.Numerals.{unary_clauses}
+use native.Mathlib.Numerals.{add-one, unary_clauses}
 use native.Mathlib.Omega.{arith}
 use lib.Dec.{leb}
 use borrow.Author.Tests.{leb-true, leb-false}
-use lib.ListN.{length, get_or, take}
-use lib.Seq.{take_all}
+use lib.ListN.{length, get_or, take, set, length-set}
+use lib.Seq.{take_all, take-suc-set}
 use lib.Ieee.{Float}
 use borrow.Rule.Slice.PartMut.{put_mid, same_len_mid, mid_len}
 use Rattle.lists.specs.Counted.{up_to}
@@ -19,7 +19,8 @@ use Rattle.accept.specs.declared.Palette.{Palette}
 use Rattle.accept.specs.Answer.{refused_by}
 use Rattle.search.proofs.Answer.{few_colors}
 use Rattle.strip.specs.Strip.{Searched}
-use Rattle.station.specs.Strip.{Few}
+use Rattle.station.specs.Searched.{bits_of}
+use Rattle.station.specs.Strip.{Few, pair_at}
 
 -- of 64 answers, each told in k places, those before the i-th stand in front
 module _ {A : Type 0} (k : ℕ) (told : ℕ → List A) where
@@ -51,6 +52,27 @@ module _ {A : Type 0} (k : ℕ) (told : ℕ → List A) where
             ∙ ap (λ m. take m out ++ piece) start ∙ ap (λ x. x ++ piece) b.front ∙ ap (λ x. up_to told i ++ x) is
             ∙ sym (up_to_more told i);
       }
+
+-- a pair is put: head and map bits
+pub pair_turn : (answers : List Palette) (bits : List Float) (i : ℕ) → Begun 2 (pair_at answers) bits i → i < 64
+    → (p : Palette) → p ≡ get_or answers i (refused_by 0)
+    → Begun 2 (pair_at answers) (set (set bits (2 * i) p.head) (2 * i + 1) p.map_bits) (i + 1)
+pair_turn answers bits i b h p is =
+    let c = b.count in
+    let headed = set bits (2 * i) p.head in
+    let long : length headed ≡ 128 = length-set bits (2 * i) p.head ∙ c in
+    let k : 2 * (i + 1) ≡ 2 * i + 1 + 1 = omega arith in
+    let first : take (2 * i + 1) headed ≡ up_to (pair_at answers) i ++ (p.head ∷ []) =
+    rw add-one (take-suc-set bits (2 * i) p.head (omega arith)) ∙ ap (λ x. x ++ (p.head ∷ [])) b.front in
+    record {
+      most = omega arith;
+      count = length-set headed (2 * i + 1) p.map_bits ∙ long;
+      front = ap (λ m. take m (set headed (2 * i + 1) p.map_bits)) k
+          ∙ rw add-one (take-suc-set headed (2 * i + 1) p.map_bits (omega (arith, long)))
+          ∙ ap (λ x. x ++ (p.map_bits ∷ [])) first
+          ∙ append_assoc (up_to (pair_at answers) i) (p.head ∷ []) (p.map_bits ∷ [])
+          ∙ ap (λ q. up_to (pair_at answers) i ++ bits_of q) is ∙ sym (up_to_more (pair_at answers) i);
+    }
 
 -- no answer of a searched strip has more than eight colours
 pub answers_few : (sides : List ℕ) (samples costs : List Float) (bd : ℕ) (lambda : Float) (map₀ map flags₀ flags : List ℕ)

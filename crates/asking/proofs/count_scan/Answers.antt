@@ -7,7 +7,7 @@ use Rattle.asking.proofs.count_scan.Goals as goal
 
 pub walk_in-w-requires : goal.walk_in-w-requires
 walk_in-w-requires g c =
-    let ready = ready_of (record { zero = c.args.trial.now.task.now.passed }) in
+    let ready = ready_of (record { zero = c.args.trial.now.passed }) in
     let count = c.lines_of-count.ensures in
     record {
       cells_zero = take_zeros _ 4096 (few_cells ready);
@@ -16,7 +16,7 @@ walk_in-w-requires g c =
 
 pub map_in-found-requires : goal.map_in-found-requires
 map_in-found-requires g c =
-    let ready = ready_of (record { zero = c.args.trial.now.task.now.passed }) in
+    let ready = ready_of (record { zero = c.args.trial.now.passed }) in
     let count = c.lines_of-count.ensures in
     record {
       cells_zero = take_zeros _ 4096 (few_cells ready);

@@ -1,9 +1,11 @@
-use mathlib.Core.Path.{◌≡◌, subst}
+use mathlib.Core.List.{List}
+use mathlib.Core.Path.{◌≡◌, sym}
+use lib.Ieee.{Float}
+use Rattle.sizes.specs.declared.Block.{Block}
 use native.Mathlib.Nat.{lt_of_le_of_lt, mul-le-mul, le_refl}
 use lib.Dec.{lit<}
 use Rattle.sizes.specs.declared.Size.{Size}
 use Rattle.search.specs.declared.BestMap.{BestMap}
-use Rattle.search.specs.declared.Task.{Task}
 use Rattle.search.specs.Search.{Standing, tried_both}
 use Rattle.search.specs.Steps.{Stands}
 use native.Mathlib.Omega.{arith}
@@ -11,13 +13,10 @@ use Rattle.sizes.proofs.Levels.{SizeTo}
 use Rattle.search.proofs.Walk.{walking_starts, walking_ends, size_known, walking_stops, walking_goes_on, fewer_left}
 use Rattle.search.proofs.Task.find.Goals as goal
 
--- by the task and the size that a trial was made of
-tried_by : (t t' : Task) (z z' : Size) (s : Standing) (kept : BestMap) → t ≡ t' → z ≡ z'
-    → Stands (tried_both t.samples.now t.sizes.costs.now t.sizes.block z s) kept
-    → Stands (tried_both t'.samples.now t'.sizes.costs.now t'.sizes.block z' s) kept
-tried_by t t' z z' s kept e f S =
-    subst (λ (q : Task). Stands (tried_both q.samples.now q.sizes.costs.now q.sizes.block z' s) kept) e
-    (subst (λ (y : Size). Stands (tried_both t.samples.now t.sizes.costs.now t.sizes.block y s) kept) f S)
+-- by what a trial was made of
+tried_by : (x x' c c' : List Float) (b b' : Block) (z z' : Size) (s : Standing) (kept : BestMap) → x ≡ x' → c ≡ c' → b ≡ b' → z ≡ z'
+    → Stands (tried_both x c b z s) kept → Stands (tried_both x' c' b' z' s) kept
+tried_by x x' c c' b b' z z' s kept e f g h S = rw (sym e, sym f, sym g, sym h) S
 
 -- the size at hand is one that the block has
 here : (c : goal.In-Some) → SizeTo c.args.self.now.sizes.histogram.now.n c.in-Some.k
@@ -70,7 +69,8 @@ loop-k-preserved c =
     let t = c.args.self.now in
     let z = t.sizes in
     let walk = c.loop-k.invariant in
-    let tried = tried_by _ t _ c.size_of.result walk.standing _ c.new.ensures.0 c.new.ensures.1 (c.both.ensures walk.standing walk.stands) in
+    let tried = tried_by _ _ _ _ _ _ _ c.size_of.result walk.standing _ c.new.ensures.0 c.new.ensures.1 c.new.ensures.2 c.new.ensures.3
+    (c.both.ensures walk.standing walk.stands) in
     walking_goes_on t.samples.now z.costs.now z.block z.histogram.now _ c.lbs_of-lbs.ensures walk _ c.in-Some.ensures
     c.if-lbs-k.false _ c.size_of.ensures _ tried
 

@@ -7,7 +7,7 @@ use Rattle.search.proofs.Trial.one.Goals as goal
 
 pub one_in-requires : goal.one_in-requires
 one_in-requires c =
-    let ready = ready_of (record { zero = c.args.self.now.task.now.passed }) in
+    let ready = ready_of (record { zero = c.args.self.now.passed }) in
     let count = c.lines_of-count.ensures in
     record {
       cells_zero = take_zeros _ 4096 (few_cells ready);

@@ -19,7 +19,7 @@ use Rattle.accept.specs.Answer.{rooms_ok}
 use Rattle.search.specs.Search.{large_ok, fault_of}
 use Rattle.search.specs.Steps.{price_fault}
 use Rattle.search.proofs.Price.{refused, price_passes, price_refuses}
-use Rattle.search.proofs.Asked.fault.Goals as goal
+use Rattle.search.proofs.fault.Goals as goal
 
 depth_is : (bd : ℕ) (r t : Bool) → r ≡ within 8 12 bd → r ≡ t → depth_ok bd ≡ t
 unfolding depth_ok
@@ -46,13 +46,13 @@ module _ (samples costs : List Float) (b : Block) (cells lines : ℕ) (sides : s
 
 pub returns-then-not-sides_ok : goal.returns-then-not-sides_ok
 unfolding fault_of
-returns-then-not-sides_ok c = rw (sym c.sides_ok.ensures ∙ c.if-not-sides_ok.true) refl
+returns-then-not-sides_ok c = λ costs is-price. rw (sym c.sides_ok.ensures ∙ c.if-not-sides_ok.true) refl
 
 pub returns-then-not-within : goal.returns-then-not-within
 unfolding fault_of
-returns-then-not-within c =
+returns-then-not-within c = λ costs is-price.
     let sides = sym c.sides_ok.ensures ∙ c.if-not-sides_ok.false in
-    let depth = depth_is c.args.self.now.block.bd c.within.result _ c.within.ensures c.if-not-within.true in
+    let depth = depth_is c.args.b.bd c.within.result _ c.within.ensures c.if-not-within.true in
     rw (sides, depth) refl
 
 pub overflow_mul-b : goal.overflow_mul-b
@@ -60,33 +60,33 @@ overflow_mul-b c =
     let f = sides_at _ _ (sym c.sides_ok.ensures ∙ c.if-not-sides_ok.false) in
     record { fits = lt_of_le_of_lt (mul-le-mul f.0.1 f.1.1) (lit< tt) }
 
-pub returns-then-self-b : goal.returns-then-self-b
+pub returns-then-samples-b : goal.returns-then-samples-b
 unfolding fault_of
-returns-then-self-b c =
+returns-then-samples-b c = λ costs is-price.
     let sides = sym c.sides_ok.ensures ∙ c.if-not-sides_ok.false in
-    let depth = depth_is c.args.self.now.block.bd c.within.result _ c.within.ensures c.if-not-within.false in
-    rw (sides, depth, ne_eqb _ _ c.if-self-b.true) refl
+    let depth = depth_is c.args.b.bd c.within.result _ c.within.ensures c.if-not-within.false in
+    rw (sides, depth, ne_eqb _ _ c.if-samples-b.true) refl
 
-pub returns-in_err-self : goal.returns-in_err-self
-returns-in_err-self c =
-    let a = c.args.self.now in
+pub returns-in_err-price : goal.returns-in_err-price
+returns-in_err-price c = λ costs is-price.
+    let a = c.args in
     let sides = sym c.sides_ok.ensures ∙ c.if-not-sides_ok.false in
-    let depth = depth_is a.block.bd c.within.result _ c.within.ensures c.if-not-within.false in
-    let is : number a.price ≡ number_of c.in_err-self.field-0.0 = search (rules, c.in_err-self.was) in
-    let same : number c.from_residual.result ≡ number_of c.in_err-self.field-0.0 = search rules in
-    same ∙ sym is ∙ sym (counted a.samples.now a.costs.now a.block c.args.cells c.args.lines sides depth c.if-self-b.false
-    ∙ price_refuses _ a.costs.now _ a.priced _ (λ z. refused _ (sym is ∙ z)))
+    let depth = depth_is a.b.bd c.within.result _ c.within.ensures c.if-not-within.false in
+    let is : number a.price ≡ number_of c.in_err-price.field-0.0 = search (rules, c.in_err-price.was) in
+    let same : number c.from_residual.result ≡ number_of c.in_err-price.field-0.0 = search rules in
+    same ∙ sym is ∙ sym (counted a.samples.now costs a.b c.args.cells c.args.lines sides depth c.if-samples-b.false
+    ∙ price_refuses _ costs _ is-price _ (λ z. refused _ (sym is ∙ z)))
 
 pub samples_ok-requires : goal.samples_ok-requires
-samples_ok-requires c = within_at 8 12 c.args.self.now.block.bd (sym c.within.ensures ∙ c.if-not-within.false)
+samples_ok-requires c = within_at 8 12 c.args.b.bd (sym c.within.ensures ∙ c.if-not-within.false)
 
 pub returns-then-not-samples_ok : goal.returns-then-not-samples_ok
-returns-then-not-samples_ok c =
-    let a = c.args.self.now in
+returns-then-not-samples_ok c = λ costs is-price.
+    let a = c.args in
     let sides = sym c.sides_ok.ensures ∙ c.if-not-sides_ok.false in
-    let depth = depth_is a.block.bd c.within.result _ c.within.ensures c.if-not-within.false in
-    let passed = price_passes _ a.costs.now _ a.priced (ap number c.in_ok-self.was) in
-    sym (counted a.samples.now a.costs.now a.block c.args.cells c.args.lines sides depth c.if-self-b.false
+    let depth = depth_is a.b.bd c.within.result _ c.within.ensures c.if-not-within.false in
+    let passed = price_passes _ costs _ is-price (ap number c.in_ok-price.was) in
+    sym (counted a.samples.now costs a.b c.args.cells c.args.lines sides depth c.if-samples-b.false
     ∙ rw (passed.0, passed.1, sym c.samples_ok.ensures ∙ c.if-not-samples_ok.true) refl)
 
 pub rooms_ok-requires : goal.rooms_ok-requires
@@ -95,30 +95,30 @@ rooms_ok-requires c =
     (f.0.1, f.1.1)
 
 pub returns-then-not-rooms_ok : goal.returns-then-not-rooms_ok
-returns-then-not-rooms_ok c =
-    let a = c.args.self.now in
+returns-then-not-rooms_ok c = λ costs is-price.
+    let a = c.args in
     let sides = sym c.sides_ok.ensures ∙ c.if-not-sides_ok.false in
-    let depth = depth_is a.block.bd c.within.result _ c.within.ensures c.if-not-within.false in
+    let depth = depth_is a.b.bd c.within.result _ c.within.ensures c.if-not-within.false in
     let sampled = sym c.samples_ok.ensures ∙ c.if-not-samples_ok.false in
-    sym (rest a.samples.now a.costs.now a.block c.args.cells c.args.lines sides depth c.if-self-b.false _ a.priced (ap number c.in_ok-self.was) sampled
+    sym (rest a.samples.now costs a.b c.args.cells c.args.lines sides depth c.if-samples-b.false _ is-price (ap number c.in_ok-price.was) sampled
     ∙ rw (sym c.rooms_ok.ensures ∙ c.if-not-rooms_ok.true) refl)
 
 pub returns-then-not-large_ok : goal.returns-then-not-large_ok
-returns-then-not-large_ok c =
-    let a = c.args.self.now in
+returns-then-not-large_ok c = λ costs is-price.
+    let a = c.args in
     let sides = sym c.sides_ok.ensures ∙ c.if-not-sides_ok.false in
-    let depth = depth_is a.block.bd c.within.result _ c.within.ensures c.if-not-within.false in
+    let depth = depth_is a.b.bd c.within.result _ c.within.ensures c.if-not-within.false in
     let sampled = sym c.samples_ok.ensures ∙ c.if-not-samples_ok.false in
     let rooms = sym c.rooms_ok.ensures ∙ c.if-not-rooms_ok.false in
-    sym (rest a.samples.now a.costs.now a.block c.args.cells c.args.lines sides depth c.if-self-b.false _ a.priced (ap number c.in_ok-self.was) sampled
+    sym (rest a.samples.now costs a.b c.args.cells c.args.lines sides depth c.if-samples-b.false _ is-price (ap number c.in_ok-price.was) sampled
     ∙ rw (rooms, sym c.large_ok.ensures ∙ c.if-not-large_ok.true) refl)
 
 pub returns : goal.returns
-returns c =
-    let a = c.args.self.now in
+returns c = λ costs is-price.
+    let a = c.args in
     let sides = sym c.sides_ok.ensures ∙ c.if-not-sides_ok.false in
-    let depth = depth_is a.block.bd c.within.result _ c.within.ensures c.if-not-within.false in
+    let depth = depth_is a.b.bd c.within.result _ c.within.ensures c.if-not-within.false in
     let sampled = sym c.samples_ok.ensures ∙ c.if-not-samples_ok.false in
     let rooms = sym c.rooms_ok.ensures ∙ c.if-not-rooms_ok.false in
-    sym (rest a.samples.now a.costs.now a.block c.args.cells c.args.lines sides depth c.if-self-b.false _ a.priced (ap number c.in_ok-self.was) sampled
+    sym (rest a.samples.now costs a.b c.args.cells c.args.lines sides depth c.if-samples-b.false _ is-price (ap number c.in_ok-price.was) sampled
     ∙ rw (rooms, sym c.large_ok.ensures ∙ c.if-not-large_ok.false) refl)
