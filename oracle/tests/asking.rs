@@ -148,13 +148,14 @@ fn the_copy_asks_where_the_map_search_does() {
     // The map search's other asking is that of a cell tried by itself.
     assert_eq!(map_search.matches("key_cell(").count(), 2);
     assert_eq!(copy.matches("key_cell(").count(), 1);
-    for text in [body(&map_search, "fn first_key("), body(&copy, "fn ask(")] {
-        let (first, later) = text.split_once("    }\n").expect("the first line returns");
-        assert!(first
-            .trim_start()
-            .starts_with("if l == 0 {\n        return "));
+    for (text, indent) in [body(&map_search, "fn first_key("), body(&copy, "fn ask(")] {
+        let end = format!("{indent}    }}\n");
+        let (first, later) = text.split_once(&end).expect("the first line returns");
+        let start = format!("if l == 0 {{\n{indent}        return ");
+        assert!(first.trim_start().starts_with(&start));
         assert!(!first.contains("key_cell("));
-        assert!(later.contains("scan::key_cell(map, codes, s, l, 0)"));
+        assert!(later.contains(".scan.key_cell(map, &"));
+        assert!(later.contains(".tables.codes, l, 0)"));
     }
 }
 
@@ -162,9 +163,15 @@ fn source(path: &str) -> String {
     fs::read_to_string(path).unwrap_or_else(|e| panic!("{path}: {e}"))
 }
 
-/// What stands between a function's braces.
-fn body<'a>(text: &'a str, head: &str) -> &'a str {
-    let (_, behind) = text.split_once(head).expect("the function is there");
-    let (_, body) = behind.split_once("\n{\n").expect("it has a body");
-    body.split_once("\n}\n").expect("it ends").0
+/// What stands between a function's braces, and how far it is indented.
+fn body<'a>(text: &'a str, head: &str) -> (&'a str, &'a str) {
+    let (before, behind) = text.split_once(head).expect("the function is there");
+    let indent = before.rsplit('\n').next().expect("a line");
+    let (_, body) = behind
+        .split_once(&format!("\n{indent}{{\n"))
+        .expect("it has a body");
+    let (body, _) = body
+        .split_once(&format!("\n{indent}}}\n"))
+        .expect("it ends");
+    (body, indent)
 }

@@ -190,9 +190,9 @@ fn numbers_between(text: &str, start: &str, end: &str) -> Vec<u16> {
 #[test]
 fn the_crates_have_the_originals_numbers() {
     let (tables, costs) = (source("tables"), source("costs"));
-    let mode = numbers_between(&costs, "if k < 1 {\n        return ", ";");
-    let size = numbers_between(&tables, "const Y_SIZE_ICDF: [u16; 6] =", ";");
-    let row = numbers_between(&tables, "const ROW_ICDF: [[u16; 2]; 4] =", ";");
-    let color = numbers_between(&tables, "const COLOR_ICDF: [[[u16; 7]; 5]; 7] =", ";");
+    let mode = numbers_between(&costs, "match k {\n        0 => ", ",");
+    let size = numbers_between(&tables, "static Y_SIZE_ICDF: [u16; 6] =", ";");
+    let row = numbers_between(&tables, "static ROW_ICDF: [[u16; 2]; 4] =", ";");
+    let color = numbers_between(&tables, "static COLOR_ICDF: [[[u16; 7]; 5]; 7] =", ";");
     assert_eq!([mode, size, row, color].concat(), default_numbers());
 }

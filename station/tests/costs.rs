@@ -63,7 +63,7 @@ fn the_default_is_from_the_sources_rows() {
 
 /// The numbers of a table in the crate's source text.
 fn numbers_of(source: &str, table: &str) -> Vec<u16> {
-    let start = format!("const {table}:");
+    let start = format!("static {table}:");
     let (_, rest) = source.split_once(&start).expect("the table is there");
     let (_, rest) = rest.split_once('=').expect("it has numbers");
     let (numbers, _) = rest.split_once(';').expect("it ends");
