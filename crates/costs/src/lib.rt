@@ -6,6 +6,7 @@ ghost use Rattle.lists.specs.Counted.{each};
 ghost use Rattle.refusals.specs.Numbers.{number};
 ghost use Rattle.tables.specs.Icdf.{color_rows};
 ghost use Rattle.costs.specs.Cost.{cost_of, sixteenths};
+ghost use Rattle.costs.specs.Thresholds.{threshold_table};
 ghost use Rattle.costs.specs.Rows.{before, chance_of, row_at, defaults, number_ok, row_ok, rows_ok};
 ghost use Rattle.costs.specs.Costs.{cost_in, table_costs, table_of, costs_number, MakesCosts};
 
@@ -45,13 +46,21 @@ pub struct Row {
     pub room: usize,
 }
 
+// The thresholds, all 241 as the document has them. Counting passes the first by, so the contract of `cost_of` alone would
+// let that one be wrong.
+fn all_thresholds() -> &'static [u16; 241]
+    ensures { result.now ≡ threshold_table }
+{
+    &THRESHOLDS
+}
+
 // The cost of probability p in sixteenths of a bit: the last c whose threshold is at least p. Thresholds never rise, so it is
 // the number of those behind the first that are; counting takes eight of them at once, where halving jumps by p.
 pub fn cost_of(p: u16) -> u16
     ensures { result ≡ cost_of p }
 {
     let mut c: u16 = 0;
-    for threshold in &THRESHOLDS[1..] {
+    for threshold in &all_thresholds()[1..] {
         if p <= *threshold {
             c += 1;
         }

@@ -14,11 +14,12 @@ loop-threshold-init c = (begins _, omega arith)
 pub loop-threshold-preserved : goal.loop-threshold-preserved
 unfolding threshold_table
 loop-threshold-preserved c =
-    let l = c.loop-threshold in (
-      turn _ l.c l.threshold-index c.if-p-threshold.c c.loop-threshold-test.true l.invariant.0
+    let l = c.loop-threshold in
+    let e = c.all_thresholds.ensures in (
+      turn _ l.c l.threshold-index c.if-p-threshold.c (omega (arith, c.loop-threshold-test.true)) l.invariant.0
           (elim c.if-p-threshold.branch [
-            | then-p-threshold w ↦ inl (w.if-p-threshold.true, w.c-is)
-            | else-p-threshold w ↦ inr (w.if-p-threshold.false, w.c-is)
+            | then-p-threshold w ↦ inl (rw e at w.if-p-threshold.true, w.c-is)
+            | else-p-threshold w ↦ inr (rw e at w.if-p-threshold.false, w.c-is)
           ]),
       elim c.if-p-threshold.branch [
         | then-p-threshold w ↦ omega (arith, w.c-is, l.invariant.1)
