@@ -1,8 +1,8 @@
 // The 301 costs of the palette symbols from their cumulative rows, in sixteenths of a bit.
 #![tactic(auto)]
 
-ghost use Rattle.std.specs.Prelude.{◌≡◌, ◌+◌, ◌<◌, ◌≤◌, length, get_or, IfOk};
-ghost use Rattle.lists.specs.Counted.{each};
+ghost use Rattle.std.specs.Prelude.{◌≡◌, ◌⊎◌, ◌+◌, ◌<◌, ◌≤◌, length, get_or, IfOk};
+ghost use Rattle.lists.specs.Counted.{part, each};
 ghost use Rattle.refusals.specs.Numbers.{number};
 ghost use Rattle.tables.specs.Icdf.{color_rows};
 ghost use Rattle.costs.specs.Cost.{cost_of, sixteenths};
@@ -135,16 +135,27 @@ fn row_at(r: usize) -> Row
     Row { at, used, room }
 }
 
-// All the costs of a table: each row has one more of them than it has places.
-fn all_costs(table: &[u16]) -> [f32; 301]
-    requires { length table.now ≡ 260 }
-    ensures { result ≡ table_costs table.now }
+// The row comes from the adapted table when one is lent, else from the default.
+fn row_of<'a>(adapted: &'a [u16], default: &'a [u16], at: usize, len: usize) -> &'a [u16]
+    requires { (at + len ≤ 260) × (length default.now ≡ 260) × ((length adapted.now ≡ 0) ⊎ (length adapted.now ≡ 260)) }
+    ensures { result.now ≡ part (table_of adapted.now default.now) at len }
+{
+    if adapted.is_empty() {
+        return &default[at..at + len];
+    }
+    &adapted[at..at + len]
+}
+
+// All the costs: each row has one more of them than it has places.
+fn all_costs<'a>(adapted: &'a [u16], default: &'a [u16]) -> [f32; 301]
+    requires { (length default.now ≡ 260) × ((length adapted.now ≡ 0) ⊎ (length adapted.now ≡ 260)) }
+    ensures { result ≡ table_costs (table_of adapted.now default.now) }
 {
     let mut costs = [0.0f32; 301];
     for r in 0..41 {
         let row = row_at(r);
         let from = row.at + r;
-        let used = &table[row.at..row.at + row.used];
+        let used = row_of(adapted, default, row.at, row.used);
         put_costs(used, &mut costs[from..from + row.room + 1]);
     }
     costs
@@ -214,16 +225,15 @@ fn costs_of(adapted: &[u16]) -> Result<[f32; 301], Refusal>
     ensures refused { number result ≡ costs_number adapted.now }
     ensures made { IfOk result (λ costs. costs ≡ table_costs (table_of adapted.now defaults)) }
 {
-    if adapted.is_empty() {
-        return Ok(all_costs(&default_table()));
+    if !adapted.is_empty() {
+        if adapted.len() != 260 {
+            return Err(Refusal::AdaptedLength);
+        }
+        if !rows_ok(adapted) {
+            return Err(Refusal::AdaptedRows);
+        }
     }
-    if adapted.len() != 260 {
-        return Err(Refusal::AdaptedLength);
-    }
-    if !rows_ok(adapted) {
-        return Err(Refusal::AdaptedRows);
-    }
-    Ok(all_costs(adapted))
+    Ok(all_costs(adapted, &default_table()))
 }
 
 // The 301 costs from an adapted table, or from the default where none is lent.

@@ -1,7 +1,4 @@
-use mathlib.Core.Path.{◌≡◌, refl, ap}
-use Prim.Native.Nat.{◌+◌, ◌-◌}
-use native.Mathlib.Omega.{arith}
-use Rattle.lists.specs.Counted.{part}
+use mathlib.Core.Path.{refl}
 use Rattle.costs.proofs.Begun.{begins, turn, ends}
 use Rattle.costs.proofs.all_costs.Goals as goal
 
@@ -11,10 +8,8 @@ loop-r-init c = begins _ _ refl
 pub loop-r-preserved : goal.loop-r-preserved
 loop-r-preserved c =
     let l = c.loop-r in
-    let row = c.row_at-row.result in
-    let e : row.at + row.used - row.at ≡ row.used = omega arith in
-    turn _ l.costs l.r l.invariant c.loop-r-test.true row c.row_at-row.ensures.row _ _
-    (ap (part c.args.table.now row.at) e)
+    turn _ l.costs l.r l.invariant c.loop-r-test.true c.row_at-row.result c.row_at-row.ensures.row _ _
+    c.row_of-used.ensures
     c.put_costs.ensures
 
 pub returns : goal.returns
