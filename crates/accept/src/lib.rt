@@ -12,6 +12,7 @@ ghost use Rattle.accept.specs.Mapped.{palette_in, cells_in, length_in};
 ghost use Rattle.accept.specs.Answer.{rooms_ok, refused_by};
 ghost use Rattle.accept.specs.Accepted.{sides_ok, colors_ok, orient_ok, counts_ok, line_ok, map_ok, refusal};
 
+use context::{Index, Level};
 use refusals::Refusal;
 
 // The answer: number 0 with the colours, their count and the orientation, or a refusal with zeros; and, where search made
@@ -57,17 +58,25 @@ pub fn orient_ok(width: usize, height: usize, transposed: bool) -> bool
     !transposed | counts::orient_sent(width, height)
 }
 
+// Whether `level` is above `low` and not above `top`.
+fn between(low: Level, level: Level, top: Level) -> bool
+    ensures { result ≡ (ltb low.0 level.0 && leb level.0 top.0) }
+{
+    (low.0 < level.0) & (level.0 <= top.0)
+}
+
 // Whether the colours are strictly ascending, none above the top level.
 fn levels_ok(colors: &[u16], bd: u32) -> bool
     requires { (1 ≤ length colors.now) × (bd ≤ 12) }
     ensures { result ≡ levels_ok bd colors.now }
 {
-    let top = literals::top_level(bd).0;
-    let mut last = colors[0];
-    let mut ok = last <= top;
+    let top = literals::top_level(bd);
+    let mut last = Level(colors[0]);
+    let mut ok = last.0 <= top.0;
     for color in &colors[1..] {
-        ok = ok & (last < *color) & (*color <= top);
-        last = *color;
+        let level = Level(*color);
+        ok &= between(last, level, top);
+        last = level;
     }
     ok
 }
@@ -200,21 +209,21 @@ impl Mapped<'_> {
     {
         let mut same = true;
         for a in 0..context::length_of(self.transposed, self.width, self.height) {
-            same &= self.index_at(l, a) == self.index_at(other, a * step);
+            same &= self.index_at(l, a).0 == self.index_at(other, a * step).0;
         }
         same
     }
 
     // The index at place a of line l.
     #[tactic(auto, unfolding(context::specs::Map::line_cell, context::specs::Map::cell))]
-    fn index_at(&self, l: usize, a: usize) -> u8
+    fn index_at(&self, l: usize, a: usize) -> Index
         requires { row_at self.now.transposed l a * self.now.width + col_at self.now.transposed l a < length self.now.map.now }
-        ensures { result ≡ cells_in self.now l a }
+        ensures { result.0 ≡ cells_in self.now l a }
     {
         if self.transposed {
-            return self.map[a * self.width + l];
+            return Index(self.map[a * self.width + l]);
         }
-        self.map[l * self.width + a]
+        Index(self.map[l * self.width + a])
     }
 }
 

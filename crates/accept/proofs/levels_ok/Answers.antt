@@ -21,7 +21,7 @@ loop-color-preserved c =
     let rest = take (length c.args.colors.now - 1) (drop 1 c.args.colors.now) in
     let e : drop l.color-index rest ≡ get_or rest l.color-index 0 ∷ drop (l.color-index + 1) rest =
     rw add-one (drop-cons rest l.color-index 0 c.loop-color-test.true) in
-    rw c.top_level-top.ensures (simp and_assoc (simp and_assoc at (rw (e, levels_next) at l.invariant)))
+    rw (c.between-ok.ensures, c.top_level-top.ensures) (simp and_assoc (simp and_assoc at (rw (e, levels_next) at l.invariant)))
 
 pub returns : goal.returns
 unfolding levels_after above all_in
