@@ -230,7 +230,7 @@ impl IndexMap<'_> {
 #[derive(Clone, Copy)]
 struct Coder<'a> {
     map: IndexMap<'a>,
-    codes: &'a Codes,
+    codes: &'a Codes<'a>,
     words: &'a [u32; 40],
     ghost coded: { CodeWords map.n words.now },
 }

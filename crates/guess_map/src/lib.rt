@@ -15,7 +15,7 @@ use scan::Scan;
 #[derive(Clone, Copy)]
 struct Guess<'a> {
     s: Scan,
-    nexts: &'a Nexts,
+    nexts: &'a Nexts<'a>,
 }
 
 // Where the table's part begins: for lines that are rows, or columns.

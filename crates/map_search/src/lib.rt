@@ -83,7 +83,7 @@ pub struct Search<'a> {
     pub samples: &'a [f32],
     pub scan: Scan,
     pub pricing: &'a Pricing<'a>,
-    pub tables: &'a Tables,
+    pub tables: &'a Tables<'a>,
     pub ghost sound: { Sound scan (length samples.now) },
 }
 

@@ -19,7 +19,7 @@ use scan::Scan;
 pub struct Plan<'a> {
     pub scan: Scan,
     pub n: usize,
-    pub tables: &'a Tables,
+    pub tables: &'a Tables<'a>,
     pub ghost two: { 2 ≤ n },
     pub ghost eight: { n ≤ 8 },
 }

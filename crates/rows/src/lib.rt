@@ -527,15 +527,15 @@ static NEXTS: [u8; 8192] = *b"\
     \x38\x78\xb8\xf8\x38\x78\xb8\xf8\x00\x48\x90\xd8\x20\x68\xb0\xc0\x08\x40\x80\xc0\x00\x40\x80\xc8\x10\x50\x88\xc8\x08\x48\x88\xd0\
     \x18\x58\x98\xd0\x10\x50\x90\xd8\x20\x60\xa0\xe0\x18\x58\x98\xe0\x28\x68\xa8\xe8\x28\x60\xa0\xe8\x30\x70\xb0\xf0\x30\x70\xa8\xf0";
 
-// The tables are to be made once and lent: each use of a constant writes it whole.
+// The tables are lent, so that none is copied: those of `new` are statics, and the same bytes of a caller's own serve as well.
 // The order of the indices for each row.
 #[derive(Drop)]
-pub struct Orders {
-    pub table: &'static [u8; 4096],
+pub struct Orders<'a> {
+    pub table: &'a [u8; 4096],
     pub ghost is_table: { table.now ≡ order_table },
 }
 
-impl Orders {
+impl Orders<'_> {
     pub fn new() -> Self {
         Orders { table: &ORDERS }
     }
@@ -551,12 +551,12 @@ impl Orders {
 
 // The context and the ranks for each row.
 #[derive(Drop)]
-pub struct Codes {
-    pub table: &'static [u8; 4096],
+pub struct Codes<'a> {
+    pub table: &'a [u8; 4096],
     pub ghost is_table: { table.now ≡ code_table },
 }
 
-impl Codes {
+impl Codes<'_> {
     pub fn new() -> Self {
         Codes { table: &CODES }
     }
@@ -588,11 +588,11 @@ impl Codes {
 
 // For reading: the order turned round, by the neighbour before. No ghost field: a guess asks nothing of its table.
 #[derive(Drop)]
-pub struct Nexts {
-    pub table: &'static [u8; 8192],
+pub struct Nexts<'a> {
+    pub table: &'a [u8; 8192],
 }
 
-impl Nexts {
+impl Nexts<'_> {
     pub fn new() -> Self
         ensures { result.table.now ≡ next_table }
     {
@@ -602,12 +602,12 @@ impl Nexts {
 
 // Orders and codes, which are mostly lent together.
 #[derive(Drop)]
-pub struct Tables {
-    pub orders: Orders,
-    pub codes: Codes,
+pub struct Tables<'a> {
+    pub orders: Orders<'a>,
+    pub codes: Codes<'a>,
 }
 
-impl Tables {
+impl Tables<'_> {
     pub fn new() -> Self {
         Tables {
             orders: Orders::new(),

@@ -180,7 +180,7 @@ impl BestMap {
 pub struct Task<'a> {
     pub samples: &'a [f32],
     pub sizes: Sizes<'a>,
-    pub tables: &'a Tables,
+    pub tables: &'a Tables<'a>,
     pub ghost passed: { fault_of samples.now sizes.costs.now sizes.block 4096 64 ≡ 0 },
 }
 
@@ -210,7 +210,7 @@ pub struct Trial<'a> {
     pub block: Block,
     pub size: Size,
     pub pricing: Pricing<'a>,
-    pub tables: &'a Tables,
+    pub tables: &'a Tables<'a>,
     pub ghost passed: { fault_of samples.now pricing.costs.now block 4096 64 ≡ 0 },
     pub ghost sides: { (block.width ≤ 64) × (block.height ≤ 64) },
     pub ghost priced: { (pricing.lambda ≡ block.lambda) × (pricing.n ≡ size.n)
