@@ -77,6 +77,130 @@ fn row_cost(costs: &[f32], ctx: usize, flag: usize) -> f32
     costs[9 + ctx * 3 + flag]
 }
 
+// What the copy and the constants of a line are measured by: the samples in the order of a scan, and the colours.
+// Stays (5): apart from `Search`, which would ask for more, a cap, skips and the order table.
+#[derive(Clone, Copy)]
+struct Distances<'a> {
+    samples: &'a [f32],
+    scan: Scan,
+    colors: &'a [f32; 8],
+    ghost sound: { Sound scan (length samples.now) },
+}
+
+impl Distances<'_> {
+    // The distance of line l from each colour.
+    fn const_dists(&self, l: usize) -> [f32; 8]
+        requires { l < self.now.scan.lines }
+        ensures { result ≡ eight (λ c. dist_line self.now.samples.now self.now.colors.now self.now.scan l (λ a. c) self.now.scan.len) }
+    {
+        let s = self.scan;
+        let mut t = [0.0f32; 8];
+        for a in 0..s.len {
+            let p = s.place(l, a);
+            let u = add_squares(t, self.samples[p], self.colors);
+            t = u;
+        }
+        t
+    }
+
+    // The distance of line l from the line before it.
+    fn copy_dist(&self, map: &[u8], l: usize) -> f32
+        requires { (length self.now.samples.now ≤ length map.now) × (l < self.now.scan.lines) × (0 < l) × Below map.now 8 }
+        ensures { result ≡ dist_line self.now.samples.now self.now.colors.now self.now.scan l
+            (λ a. cell_in map.now self.now.scan (l - 1) a) self.now.scan.len }
+    {
+        let s = self.scan;
+        let mut t = 0.0f32;
+        for a in 0..s.len {
+            let p = s.place(l, a);
+            let q = s.place(l - 1, a);
+            let i = usize::from(map[q]);
+            t = t + cells::square(self.samples[p], self.colors[i]);
+        }
+        t
+    }
+
+    // The first candidate of line l: the copy, or on the first line the constant of index 0.
+    fn first_of(&self, map: &[u8], l: usize, row: f32, zero: Choice) -> Choice
+        requires { (length self.now.samples.now ≤ length map.now) × (l < self.now.scan.lines) × Below map.now 8 }
+        ensures { result ≡ cond (eqb l 0) zero
+            (copied_by self.now.samples.now self.now.colors.now self.now.scan map.now l row) }
+    {
+        if l == 0 {
+            return zero;
+        }
+        let cost = Cost {
+            dist: self.copy_dist(map, l),
+            rate: row,
+        };
+        Choice {
+            cost,
+            flag: 2,
+            index: 0,
+        }
+    }
+}
+
+// The cheapest of a candidate and the constants, the first of the cheapest.
+fn best_const(
+    dists: &[f32; 8],
+    rates: &[f32; 8],
+    codes: &Codes,
+    k: usize,
+    row: f32,
+    n: usize,
+    lambda: f32,
+    from: Choice,
+) -> Choice
+    requires { (n ≤ 8) × (k < 512) }
+    ensures { result ≡ cheapest (λ (c : Choice). total_of c.cost lambda) from (constants_by dists.now rates.now k row 0 n) }
+{
+    let mut best = from;
+    let mut least = from.cost.total(lambda);
+    for c in 0..n {
+        let next = constant(dists, rates, codes, k, row, c);
+        let total = next.cost.total(lambda);
+        if total < least {
+            best = next;
+            least = total;
+        }
+    }
+    best
+}
+
+// As `line_best`, by the row m of the line's first cell: the constants ask for none.
+// Stays (5): a `Search` would ask for more, a cap, skips and the order table.
+pub fn best_by(
+    src: &[f32],
+    map: &[u8],
+    costs: &[f32],
+    colors: &[f32; 8],
+    s: Scan,
+    l: usize,
+    n: usize,
+    lambda: f32,
+    ctx: usize,
+    m: Key,
+    codes: &Codes,
+) -> Choice
+    requires sound { Sound s (length src.now) × (length src.now ≤ length map.now) × (l < s.lines) × (ctx ≤ 3) }
+    requires le_n { (2 ≤ n) × (n ≤ 8) × (length costs.now ≡ 301) × Below map.now n × (m ≡ key_in map.now s l 0) }
+    ensures { result ≡ best_of src.now costs.now colors.now n lambda s map.now l ctx }
+{
+    let distances = Distances {
+        samples: src,
+        scan: s,
+        colors,
+    };
+    let rates = cells::rates(costs, n, m.ctx, l == 0);
+    let dists = distances.const_dists(l);
+    let row = row_cost(costs, ctx, 1);
+    let zero = constant(&dists, &rates, codes, m.row, row, 0);
+    let copy = row_cost(costs, ctx, 2);
+    let from = distances.first_of(map, l, copy, zero);
+    best_const(&dists, &rates, codes, m.row, row, n, lambda, from)
+}
+
 // What a map is searched for: the samples in the order of a scan, with what is made once for a size, and the tables.
 #[derive(Clone, Copy)]
 pub struct Search<'a> {
@@ -88,65 +212,6 @@ pub struct Search<'a> {
 }
 
 impl<'a> Search<'a> {
-    // The distance of line l from each colour.
-    fn const_dists(&self, l: usize) -> [f32; 8]
-        requires { l < self.now.scan.lines }
-        ensures { result ≡ eight (λ c. dist_line self.now.samples.now self.now.pricing.now.colors self.now.scan l (λ a. c) self.now.scan.len) }
-    {
-        let s = self.scan;
-        let mut t = [0.0f32; 8];
-        for a in 0..s.len {
-            let p = s.place(l, a);
-            let u = add_squares(t, self.samples[p], &self.pricing.colors);
-            t = u;
-        }
-        t
-    }
-
-    // The distance of line l from the line before it.
-    fn copy_dist(&self, map: &[u8], l: usize) -> f32
-        requires { (length self.now.samples.now ≤ length map.now) × (l < self.now.scan.lines) × (0 < l) × Below map.now 8 }
-        ensures { result ≡ dist_line self.now.samples.now self.now.pricing.now.colors self.now.scan l
-            (λ a. cell_in map.now self.now.scan (l - 1) a) self.now.scan.len }
-    {
-        let s = self.scan;
-        let mut t = 0.0f32;
-        for a in 0..s.len {
-            let p = s.place(l, a);
-            let q = s.place(l - 1, a);
-            let i = usize::from(map[q]);
-            t = t + cells::square(self.samples[p], self.pricing.colors[i]);
-        }
-        t
-    }
-
-    // The cheapest of a candidate and the constants, the first of the cheapest.
-    fn best_const(
-        &self,
-        dists: &[f32; 8],
-        rates: &[f32; 8],
-        k: usize,
-        row: f32,
-        from: Choice,
-    ) -> Choice
-        requires { k < 512 }
-        ensures { result ≡ cheapest (λ (c : Choice). total_of c.cost self.now.pricing.now.lambda) from
-            (constants_by dists.now rates.now k row 0 self.now.pricing.now.n) }
-    {
-        let lambda = self.pricing.lambda;
-        let mut best = from;
-        let mut least = from.cost.total(lambda);
-        for c in 0..self.pricing.n {
-            let next = constant(dists, rates, &self.tables.codes, k, row, c);
-            let total = next.cost.total(lambda);
-            if total < least {
-                best = next;
-                least = total;
-            }
-        }
-        best
-    }
-
     // The cheapest index of cell a of line l.
     fn one_cell(&self, map: &[u8], l: usize, a: usize) -> Cell
         requires { (length self.now.samples.now ≤ length map.now) × (l < self.now.scan.lines) × (a < self.now.scan.len)
@@ -187,26 +252,6 @@ impl<'a> Search<'a> {
         cost
     }
 
-    // The first candidate of line l: the copy, or on the first line the constant of index 0.
-    fn first_of(&self, map: &[u8], l: usize, row: f32, zero: Choice) -> Choice
-        requires { (length self.now.samples.now ≤ length map.now) × (l < self.now.scan.lines) × Below map.now 8 }
-        ensures { result ≡ cond (eqb l 0) zero
-            (copied_by self.now.samples.now self.now.pricing.now.colors self.now.scan map.now l row) }
-    {
-        if l == 0 {
-            return zero;
-        }
-        let cost = Cost {
-            dist: self.copy_dist(map, l),
-            rate: row,
-        };
-        Choice {
-            cost,
-            flag: 2,
-            index: 0,
-        }
-    }
-
     // The row of the first cell of line l, asked once for all constants of the line. In the first line nothing is asked:
     // the order is that of the indices.
     fn first_key(&self, map: &[u8], l: usize) -> Key
@@ -220,21 +265,27 @@ impl<'a> Search<'a> {
         self.scan.key_cell(map, &self.tables.codes, l, 0)
     }
 
-    // As `line_best`, by the row m of the line's first cell: the constants ask for none.
+    // As `line_best`, by the row m of the line's first cell.
     pub fn best_by(&self, map: &[u8], l: usize, ctx: usize, m: Key) -> Choice
         requires { (length self.now.samples.now ≤ length map.now) × (l < self.now.scan.lines) × (ctx ≤ 3)
             × Below map.now self.now.pricing.now.n × (m ≡ key_in map.now self.now.scan l 0) }
         ensures { let p = self.now.pricing.now in
             result ≡ best_of self.now.samples.now p.costs.now p.colors p.n p.lambda self.now.scan map.now l ctx }
     {
-        let costs = self.pricing.costs;
-        let rates = self.pricing.rates(m.ctx, l == 0);
-        let dists = self.const_dists(l);
-        let row = row_cost(costs, ctx, 1);
-        let zero = constant(&dists, &rates, &self.tables.codes, m.row, row, 0);
-        let copy = row_cost(costs, ctx, 2);
-        let from = self.first_of(map, l, copy, zero);
-        self.best_const(&dists, &rates, m.row, row, from)
+        let p = self.pricing;
+        best_by(
+            self.samples,
+            map,
+            p.costs,
+            &p.colors,
+            self.scan,
+            l,
+            p.n,
+            p.lambda,
+            ctx,
+            m,
+            &self.tables.codes,
+        )
     }
 
     // The cheapest of copy and constants.

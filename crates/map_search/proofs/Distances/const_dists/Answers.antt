@@ -4,7 +4,7 @@ use mathlib.Core.Path.{◌≡◌, refl, ap, ◌∙◌}
 use Prim.Native.Nat.{ℕ}
 use Rattle.cells.specs.Cell.{eight}
 use Rattle.map_search.specs.Lines.{dist_line}
-use Rattle.map_search.proofs.Search.const_dists.Goals as goal
+use Rattle.map_search.proofs.Distances.const_dists.Goals as goal
 
 pub loop-a-init : goal.loop-a-init
 unfolding dist_line
@@ -19,4 +19,4 @@ returns c =
     let s = c.args.self.now in
     let all : c.loop-a.a ≡ s.scan.len = omega (arith, c.loop-a-test.false, c.loop-a.auto.a-end) in
     c.loop-a.invariant
-    ∙ ap (λ (k : ℕ). eight (λ i. dist_line s.samples.now s.pricing.now.colors s.scan c.args.l (λ b. i) k)) all
+    ∙ ap (λ (k : ℕ). eight (λ i. dist_line s.samples.now s.colors.now s.scan c.args.l (λ b. i) k)) all

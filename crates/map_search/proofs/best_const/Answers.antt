@@ -7,9 +7,9 @@ use mathlib.Core.Bool.{true, false, cond}
 use mathlib.Core.Logic.{◌⊎◌, inl, inr}
 use lib.Ieee.{Float, lt}
 use mathlib.Core.Path.{◌≡◌, sym, ap, ◌∙◌}
-use Rattle.map_search.proofs.Search.best_const.Invariants.{total}
-use Rattle.map_search.proofs.Search.best_const.Goals as goal
-use Rattle.map_search.proofs.Search.best_const.Goals.{then-total-least, else-total-least}
+use Rattle.map_search.proofs.best_const.Invariants.{total}
+use Rattle.map_search.proofs.best_const.Goals as goal
+use Rattle.map_search.proofs.best_const.Goals.{then-total-least, else-total-least}
 
 -- the next one or the best so far, by the total that is carried along
 by_least : (lambda least t least' : Float) (best next best' : Choice) → least ≡ total lambda best → t ≡ total lambda next
@@ -24,7 +24,7 @@ pub loop-c-preserved : goal.loop-c-preserved
 unfolding cheapest constants_by
 loop-c-preserved c =
     let l = c.loop-c in
-    let p = c.args.self.now.pricing.now in
+    let p = c.args in
     let next = c.constant-next.result in
     let e : p.n - l.c ≡ suc (p.n - (l.c + 1)) = omega (arith, c.loop-c-test.true) in
     let kept = by_least p.lambda l.least c.total-total.result c.if-total-least.least l.best next c.if-total-least.best l.invariant.1
@@ -38,5 +38,5 @@ loop-c-preserved c =
 pub returns : goal.returns
 unfolding cheapest constants_by
 returns c =
-    let none : c.args.self.now.pricing.now.n - c.loop-c.c ≡ 0 = omega (arith, c.loop-c-test.false) in
+    let none : c.args.n - c.loop-c.c ≡ 0 = omega (arith, c.loop-c-test.false) in
     rw none at c.loop-c.invariant.0

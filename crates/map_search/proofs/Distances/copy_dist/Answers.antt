@@ -1,7 +1,7 @@
 use native.Mathlib.Numerals.{add-one}
 use mathlib.Core.Path.{refl}
 use Rattle.map_search.specs.Lines.{dist_line}
-use Rattle.map_search.proofs.Search.copy_dist.Goals as goal
+use Rattle.map_search.proofs.Distances.copy_dist.Goals as goal
 
 pub loop-a-init : goal.loop-a-init
 unfolding dist_line

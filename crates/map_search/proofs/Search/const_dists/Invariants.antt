@@ -1,7 +1,0 @@
-use mathlib.Core.Path.{◌≡◌}
-use Rattle.cells.specs.Cell.{eight}
-use Rattle.map_search.specs.Lines.{dist_line}
-use Rattle.map_search.proofs.Search.const_dists.Given as goal
-
-abbrev pub invariant-loop-a : goal.invariant-loop-a
-invariant-loop-a l = l.t ≡ eight (λ c. dist_line l.self.samples.now l.self.pricing.now.colors l.s l.l (λ b. c) l.a)
