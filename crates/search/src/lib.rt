@@ -104,6 +104,29 @@ pub fn fault(
     Ok(())
 }
 
+// What was said of lambda and costs, by its number.
+fn price_told(price: u32) -> Result<(), Refusal>
+    ensures { (lambda : Float) (costs : List Float) → price ≡ price_fault lambda costs → number result ≡ price }
+{
+    match price {
+        0 => Ok(()),
+        4 => Err(Refusal::Lambda),
+        _ => Err(Refusal::Costs),
+    }
+}
+
+// As `fault`, by numbers: `price` is 4 or 5, or 0 where nothing was said.
+// Stays (5): a `Result` would ask for more than any number.
+pub fn fault_by(samples: &[f32], b: Block, price: u32, cells: usize, lines: usize) -> u32
+    ensures { (costs : List Float) → price ≡ price_fault b.lambda costs
+        → result ≡ fault_of samples.now costs b cells lines }
+{
+    match fault(samples, b, price_told(price), cells, lines) {
+        Ok(()) => 0,
+        Err(refusal) => refusal.number(),
+    }
+}
+
 // The colours as f32.
 pub fn values(colors: [u16; 8]) -> [f32; 8]
     ensures { result ≡ map (nat binary32) colors }
