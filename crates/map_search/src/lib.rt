@@ -78,7 +78,7 @@ fn row_cost(costs: &[f32], ctx: usize, flag: usize) -> f32
 }
 
 // What the copy and the constants of a line are measured by: the samples in the order of a scan, and the colours.
-// Stays (5): apart from `Search`, which would ask for more, a cap, skips and the order table.
+// Apart from `Search`, which would ask for more, a cap, skips and the order table.
 #[derive(Clone, Copy)]
 struct Distances<'a> {
     samples: &'a [f32],
@@ -142,6 +142,7 @@ impl Distances<'_> {
 }
 
 // The cheapest of a candidate and the constants, the first of the cheapest.
+// Stays (5): as `best_by`.
 fn best_const(
     dists: &[f32; 8],
     rates: &[f32; 8],

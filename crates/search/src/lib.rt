@@ -105,6 +105,7 @@ pub fn fault(
 }
 
 // What was said of lambda and costs, by its number.
+// Stays (1): as `fault_by`.
 fn price_told(price: u32) -> Result<(), Refusal>
     ensures { (lambda : Float) (costs : List Float) → price ≡ price_fault lambda costs → number result ≡ price }
 {
@@ -116,7 +117,7 @@ fn price_told(price: u32) -> Result<(), Refusal>
 }
 
 // As `fault`, by numbers: `price` is 4 or 5, or 0 where nothing was said.
-// Stays (5): a `Result` would ask for more than any number.
+// Stays (1): a `Result` would ask for more than any number.
 pub fn fault_by(samples: &[f32], b: Block, price: u32, cells: usize, lines: usize) -> u32
     ensures { (costs : List Float) → price ≡ price_fault b.lambda costs
         → result ≡ fault_of samples.now costs b cells lines }
