@@ -245,7 +245,9 @@ impl<'a> Search<'a> {
             let v = self.one_cell(map, l, a);
             let p = self.scan.place(l, a);
             map[p] = v.index;
-            cost = cost + v.cost;
+            // By itself, so that the cell need not stand in memory.
+            let d = v.cost;
+            cost = cost + d;
             if cost.total(self.pricing.lambda) >= limit {
                 return cost;
             }

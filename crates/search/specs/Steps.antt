@@ -1,15 +1,12 @@
 -- What the functions within the crate ask and answer: the steps of `search`.
-use Rattle.std.specs.Prelude.{◌≡◌, Bool, cond, not, List, ℕ, ◌*◌, length, take, replicate, Float, Result, IfOk}
+use Rattle.std.specs.Prelude.{◌≡◌, Bool, cond, not, List, ℕ, ◌*◌, length, take, replicate, Float}
 use Rattle.lists.specs.Written.{front}
-use Rattle.refusals.specs.Numbers.{number}
-use Rattle.refusals.specs.declared.Refusal.{Refusal}
 use Rattle.context.specs.Map.{lines_of}
-use Rattle.groups.specs.declared.Histogram.{Histogram}
 use Rattle.samples.specs.Samples.{lambda_ok, costs_ok}
 use Rattle.sizes.specs.declared.Block.{Block}
 use Rattle.search.specs.declared.BestMap.{BestMap}
 use Rattle.accept.specs.declared.Palette.{Palette}
-use Rattle.search.specs.Search.{Standing, histogram_in, fault_of, search_number, palette_by}
+use Rattle.search.specs.Search.{Standing, fault_of, palette_by}
 
 -- the first of 4 and 5 that applies, or 0
 abbrev pub price_fault : Float → List Float → ℕ
@@ -18,11 +15,6 @@ price_fault lambda costs = cond (not (lambda_ok lambda)) 4 (cond (not (costs_ok 
 -- the tests 1 to 8 have passed
 pub record Passed (samples costs : List Float) (b : Block) (cells lines : ℕ) : Type 0 where
   pub zero : fault_of samples costs b cells lines ≡ 0
-
--- the first of 1 to 10 that applies, or the levels
-pub record Levels (samples costs : List Float) (b : Block) (cells lines : ℕ) (r : Result Histogram Refusal) : Type 0 where
-  pub is : number r ≡ search_number samples costs b cells lines
-  pub levels : IfOk r (λ h. h ≡ histogram_in samples)
 
 -- cells and lines are zeros, as many as a map has
 pub record Zeros (b : Block) (t : Bool) (cells lines : List ℕ) : Type 0 where

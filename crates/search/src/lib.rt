@@ -9,7 +9,7 @@ ghost use Rattle.ieee.specs.Numbers.{nat};
 ghost use Rattle.map_search.specs.Parts.{Built};
 ghost use Rattle.search.specs.Search.{Standing, none, lower, map_in, tried, tried_both, searched, histogram_in, found_in, estimate_of, Searches};
 ghost use Rattle.search.specs.Search.{large_ok, fault_of, levels_fault};
-ghost use Rattle.search.specs.Steps.{price_fault, Levels, Passed, Zeros, Whole, Stands, Written};
+ghost use Rattle.search.specs.Steps.{price_fault, Passed, Zeros, Whole, Stands, Written};
 
 use accept::Palette;
 use cells::{Cost, Pricing};
@@ -350,16 +350,6 @@ impl Asked<'_> {
         fault(self.samples, self.block, self.price, cells, lines)
     }
 
-    // The levels, or the first of the numbers 1 to 10 that applies.
-    fn levels(&self, cells: usize, lines: usize) -> Result<Histogram, Refusal>
-        ensures { Levels self.now.samples.now self.now.costs.now self.now.block cells lines result }
-    {
-        self.fault(cells, lines)?;
-        let h = groups::histogram_of(self.samples, self.block.bd);
-        levels_fault(h.n)?;
-        Ok(h)
-    }
-
     // The palette of a block that has passed the tests, with these levels; the tables are made here, once.
     fn search_levels(&self, h: &Histogram, map: &mut [u8], flags: &mut [u8]) -> Palette
         requires passed { Passed self.now.samples.now self.now.costs.now self.now.block (length map.old) (length flags.old) }
@@ -379,15 +369,28 @@ impl Asked<'_> {
         kept.hand_over(self.block, map, flags)
     }
 
+    // As `search`, behind the tests 1 to 8. The histogram is made only here: no refusal before it pays for one.
+    fn search_tested(&self, map: &mut [u8], flags: &mut [u8]) -> Palette
+        requires { Passed self.now.samples.now self.now.costs.now self.now.block (length map.old) (length flags.old) }
+        ensures { Searches self.now.samples.now self.now.costs.now self.now.block
+            map.old map.new flags.old flags.new result }
+    {
+        let h = groups::histogram_of(self.samples, self.block.bd);
+        match levels_fault(h.n) {
+            Ok(()) => self.search_levels(&h, map, flags),
+            Err(refusal) => accept::refuse(refusal),
+        }
+    }
+
     // As `search`.
     pub fn search(&self, map: &mut [u8], flags: &mut [u8]) -> Palette
         ensures { Searches self.now.samples.now self.now.costs.now self.now.block
             map.old map.new flags.old flags.new result }
     {
-        match self.levels(map.len(), flags.len()) {
-            Ok(h) => self.search_levels(&h, map, flags),
-            Err(refusal) => accept::refuse(refusal),
+        if let Err(refusal) = self.fault(map.len(), flags.len()) {
+            return accept::refuse(refusal);
         }
+        self.search_tested(map, flags)
     }
 }
 
