@@ -140,6 +140,7 @@ fn print_block<W: Write>(out: &mut W, p: Palette, map: &[u8], flags: &[u8]) -> i
 
 fn area(width: usize, height: usize) -> usize
     requires { (width ≤ 64) × (height ≤ 64) }
+    ensures { result ≤ 4096 }
 {
     width * height
 }
