@@ -21,9 +21,9 @@ use rows::Codes;
 // The colours that no cache entry took, ascending: the first `count` places.
 // Stays (6): no heap, so that they are the first of eight.
 #[derive(Clone, Copy)]
-struct Left {
-    count: usize,
-    colors: [u16; 8],
+pub struct Left {
+    pub count: usize,
+    pub colors: [u16; 8],
     ghost few: { count ≤ 8 },
     ghost rising: { ascending (take count colors) ≡ true },
 }
@@ -63,9 +63,9 @@ impl Left {
 
 // The untaken colours after all cache entries, and the place after the bits.
 #[derive(Clone, Copy)]
-struct Sent {
-    left: Left,
-    next: usize,
+pub struct Sent {
+    pub left: Left,
+    pub next: usize,
 }
 
 // One bit for each cache entry in order, until no colour is left.
