@@ -18,15 +18,15 @@ use std::io::{Read, Write};
 
 // A strip to be searched: the rooms that are lent, and how much was read.
 #[derive(Clone, Copy)]
-struct StripHead {
-    sides: usize,
-    bd: u32,
-    map_room: usize,
-    flag_room: usize,
-    samples: usize,
-    costs: usize,
-    lambda: f32,
-    again: bool,
+pub struct StripHead {
+    pub sides: usize,
+    pub bd: u32,
+    pub map_room: usize,
+    pub flag_room: usize,
+    pub samples: usize,
+    pub costs: usize,
+    pub lambda: f32,
+    pub again: bool,
     ghost rooms: { (map_room ≤ 8192) × (flag_room ≤ 2048) },
     ghost counts: { (sides ≤ 300) × (samples ≤ 8192) × (costs ≤ 560) },
 }
