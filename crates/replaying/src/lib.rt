@@ -171,8 +171,8 @@ pub fn print_answer<W: Write>(
     Ok(())
 }
 
-// A block to be searched: its sides, depth and lambda, the rooms for its map and flags, and how many samples and costs
-// were read.
+// A block to be searched: its sides, depth and lambda, the rooms for its map and flags, how many samples and costs were
+// read, and whether the costs of the block before serve again.
 #[derive(Clone, Copy)]
 pub struct BlockHead {
     pub width: usize,
@@ -184,8 +184,43 @@ pub struct BlockHead {
     pub samples: usize,
     pub costs: usize,
     pub lambda: f32,
+    pub again: bool,
     ghost rooms: { (flag_room ≤ 80) × (map_room ≤ 4240) },
     ghost counts: { (samples ≤ 4200) × (costs ≤ 560) },
+}
+
+impl BlockHead {
+    fn by(head: [u8; 15]) -> BlockHead {
+        let [
+            width,
+            height,
+            bd,
+            flag_room,
+            m0,
+            m1,
+            s0,
+            s1,
+            c0,
+            c1,
+            l0,
+            l1,
+            l2,
+            l3,
+            again,
+        ] = head;
+        BlockHead {
+            width: usize::from(width),
+            height: usize::from(height),
+            bd: u32::from(bd),
+            cells: usize::from(width) * usize::from(height),
+            flag_room: usize::from(flag_room).min(80),
+            map_room: size([m0, m1], 4240),
+            samples: size([s0, s1], 4200),
+            costs: size([c0, c1], 560),
+            lambda: f32::of_bytes([l0, l1, l2, l3]),
+            again: again != 0,
+        }
+    }
 }
 
 // What was read of samples and costs. Costs that serve again are those of the block before.
@@ -210,43 +245,15 @@ impl Blocks {
     pub fn next<R: Read>(&mut self, input: &mut R) -> io::Result<Option<BlockHead>>
         ensures { OnErr result (self.new.samples ≡ self.old.samples) }
     {
-        let Some(head) = read_head::<R, 15>(input)? else {
+        let Some(head) = read_head(input)? else {
             return Ok(None);
         };
-        let [
-            width,
-            height,
-            bd,
-            flag_room,
-            m0,
-            m1,
-            s0,
-            s1,
-            c0,
-            c1,
-            l0,
-            l1,
-            l2,
-            l3,
-            again,
-        ] = head;
-        let samples = size([s0, s1], 4200);
-        let costs = size([c0, c1], 560);
-        if again == 0 {
-            read_numbers(input, &mut self.costs[..costs])?;
+        let a = BlockHead::by(head);
+        if !a.again {
+            read_numbers(input, &mut self.costs[..a.costs])?;
         }
-        read_numbers(input, &mut self.samples[..samples])?;
-        Ok(Some(BlockHead {
-            width: usize::from(width),
-            height: usize::from(height),
-            bd: u32::from(bd),
-            cells: usize::from(width) * usize::from(height),
-            flag_room: usize::from(flag_room).min(80),
-            map_room: size([m0, m1], 4240),
-            samples,
-            costs,
-            lambda: f32::of_bytes([l0, l1, l2, l3]),
-        }))
+        read_numbers(input, &mut self.samples[..a.samples])?;
+        Ok(Some(a))
     }
 
     pub fn samples(&self, head: &BlockHead) -> &[f32]
