@@ -4,11 +4,12 @@
 // Functions here may have a `requires`.
 #![tactic(auto)]
 
-ghost use Rattle.std.specs.Prelude.{◌≡◌, cond, ◌+◌, ◌*◌, ◌%◌, ◌<◌, ◌≤◌, min, eqb, length, take, ◌++◌, codes, decimal, IfOk, IfSome, OnOk, OnErr};
-ghost use Rattle.std.specs.Int.{w16, from_le_bytes};
+ghost use Rattle.std.specs.Prelude.{◌≡◌, cond, ℕ, List, ◌+◌, ◌*◌, ◌%◌, ◌<◌, ◌≤◌, min, eqb, length, take, replicate, ◌++◌, codes, decimal, IfOk, IfSome, OnOk, OnErr};
+ghost use Rattle.std.specs.Int.{w16, w32, from_le_bytes};
 ghost use Rattle.std.specs.Float.{binary32};
-ghost use Rattle.std.specs.Float.Ieee.{eq, to_bits};
+ghost use Rattle.std.specs.Float.Ieee.{eq, of_bits, to_bits};
 ghost use Rattle.std.specs.Io.KnownBytes.{Appends, Consumes};
+ghost use Rattle.replaying.specs.Hash.{hashed, Words};
 
 use std::io;
 use std::io::{Read, Write};
@@ -26,30 +27,49 @@ pub fn read_head<R: Read, const N: usize>(input: &mut R) -> io::Result<Option<[u
 
 // A number that stands in the input as N bytes, the low one first.
 pub trait OfBytes<const N: usize>: Copy {
-    fn of_bytes(bytes: [u8; N]) -> Self;
+    ghost number: { List ℕ → Self };
+
+    fn of_bytes(bytes: [u8; N]) -> Self
+        ensures { result ≡ number bytes.entry };
 }
 
 impl OfBytes<2> for u16 {
-    fn of_bytes(bytes: [u8; 2]) -> u16 {
+    ghost number = { from_le_bytes w16 };
+
+    fn of_bytes(bytes: [u8; 2]) -> u16
+        ensures { result ≡ from_le_bytes w16 bytes }
+    {
         u16::from_le_bytes(bytes)
     }
 }
 
 impl OfBytes<2> for usize {
-    fn of_bytes(bytes: [u8; 2]) -> usize {
+    ghost number = { from_le_bytes w16 };
+
+    fn of_bytes(bytes: [u8; 2]) -> usize
+        ensures { result ≡ from_le_bytes w16 bytes }
+    {
         usize::from(u16::from_le_bytes(bytes))
     }
 }
 
 impl OfBytes<4> for u32 {
-    fn of_bytes(bytes: [u8; 4]) -> u32 {
+    ghost number = { from_le_bytes w32 };
+
+    fn of_bytes(bytes: [u8; 4]) -> u32
+        ensures { result ≡ from_le_bytes w32 bytes }
+    {
         u32::from_le_bytes(bytes)
     }
 }
 
 // The float of any bits: `from_bits` takes no NaN's.
 impl OfBytes<4> for f32 {
-    fn of_bytes(bytes: [u8; 4]) -> f32 {
+    ghost number = { λ bytes. of_bits binary32 (from_le_bytes w32 bytes) };
+
+    fn of_bytes(bytes: [u8; 4]) -> f32
+        ensures { result ≡ of_bits binary32 (from_le_bytes w32 bytes) }
+    {
         let bits = u32::from_le_bytes(bytes);
         if 2139095040 < bits % 2147483648 {
             return f32::NAN;
@@ -115,7 +135,10 @@ impl Hash {
         }
     }
 
-    pub fn with_all<T: Copy + Into<u32>>(self, words: &[T]) -> Hash {
+    // With each value's word.
+    pub fn with_all<T: Copy + Into<u32>>(self, words: &[T]) -> Hash
+        ensures { (ws : List ℕ) × Words T.converts words.now ws × (result.value ≡ hashed self.value ws) }
+    {
         let mut hash = self;
         for word in words {
             hash = hash.with((*word).into());
@@ -231,7 +254,9 @@ pub struct Blocks {
 }
 
 impl Blocks {
-    pub fn new() -> Blocks {
+    pub fn new() -> Blocks
+        ensures { (result.samples ≡ replicate 4200 (of_bits binary32 0)) × (result.costs ≡ replicate 560 (of_bits binary32 0)) }
+    {
         Blocks {
             samples: [0.0; 4200],
             costs: [0.0; 560],
