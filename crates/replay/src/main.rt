@@ -114,7 +114,11 @@ fn replay_pred<W: Write>(out: &mut W, a: Asked, flags: &[u8], map: &[u8]) -> io:
     write!(out, " {number}")?;
     // `pred` accepts only a map of as many cells as there are values.
     let count = replaying::written(number, a.cells);
-    print_buffer(out, &values.map(bits_of), count, bits_of(0.5))
+    let mut bits = [0; 4240];
+    for (bit, value) in bits.iter_mut().zip(&values) {
+        *bit = bits_of(*value);
+    }
+    print_buffer(out, &bits, count, bits_of(0.5))
 }
 
 // Reads what stands behind the 29 bytes, and prints the palette's line.

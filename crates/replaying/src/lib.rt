@@ -78,6 +78,23 @@ impl OfBytes<4> for f32 {
     }
 }
 
+// Reads a number into each place, by a room of its own: to clear it takes as long as it is large.
+fn read_in<R: Read, T: OfBytes<N>, const N: usize, const ROOM: usize>(
+    input: &mut R,
+    numbers: &mut [T],
+) -> io::Result<()>
+    requires { (0 < N) × (N ≤ 8) × (N * length numbers.old ≤ ROOM) × (ROOM ≤ 32768) }
+    ensures { OnErr result (numbers.new ≡ numbers.old) }
+{
+    let mut bytes = [0u8; ROOM];
+    input::read_full(input, &mut bytes[..N * numbers.len()])?;
+    let (chunks, _) = bytes.as_chunks::<N>();
+    for (number, chunk) in numbers.iter_mut().zip(chunks) {
+        *number = T::of_bytes(*chunk);
+    }
+    Ok(())
+}
+
 // Reads a number into each place.
 pub fn read_numbers<R: Read, T: OfBytes<N>, const N: usize>(
     input: &mut R,
@@ -86,13 +103,10 @@ pub fn read_numbers<R: Read, T: OfBytes<N>, const N: usize>(
     requires { (0 < N) × (N ≤ 8) × (N * length numbers.old ≤ 32768) }
     ensures { OnErr result (numbers.new ≡ numbers.old) }
 {
-    let mut bytes = [0u8; 32768];
-    input::read_full(input, &mut bytes[..N * numbers.len()])?;
-    let (chunks, _) = bytes.as_chunks::<N>();
-    for (number, chunk) in numbers.iter_mut().zip(chunks) {
-        *number = T::of_bytes(*chunk);
+    if N * numbers.len() <= 1024 {
+        return read_in::<R, T, N, 1024>(input, numbers);
     }
-    Ok(())
+    read_in::<R, T, N, 32768>(input, numbers)
 }
 
 // A size of two bytes, cut to what the buffer holds.
@@ -170,7 +184,11 @@ pub fn print_buffer<W: Write, T: Copy + Into<u32> + PartialEq>(
     before: T,
 ) -> io::Result<()> {
     let (front, behind) = places.split_at(count.min(places.len()));
-    let kept = behind.iter().all(|place| *place == before);
+    // All are looked at: without a way out the loop is quicker.
+    let mut kept = true;
+    for place in behind {
+        kept &= *place == before;
+    }
     write!(
         out,
         " {} {}",
