@@ -19,6 +19,7 @@ fn read_bit(words: &mut Reading, mut held: Held, entry: Level) -> Result<Held, R
     requires { held.count < 8 }
     ensures reads { read_bit entry.0 (colors_in held) (left words.old) ≡ told colors_in result (left words.new) }
     ensures few { IfOk result (λ h. h.count ≤ held.count + 1) }
+    ensures list { words.new.words ≡ words.old.words }
 {
     let bit = words.take(1, 1, 2)?;
     if bit == 1 {
@@ -32,6 +33,7 @@ fn read_cache(words: &mut Reading, cache: &[u16], n: usize) -> Result<Held, Refu
     requires { n ≤ 8 }
     ensures reads { read_cache cache.now n [] (left words.old) ≡ told colors_in result (left words.new) }
     ensures few { IfOk result (λ h. h.count ≤ n) }
+    ensures list { words.new.words ≡ words.old.words }
 {
     let mut held = Held::new();
     for entry in cache {
@@ -75,6 +77,7 @@ fn read_steps(
     ensures reads { read_steps bd first from.0 (n - held.count) (colors_in held) (left words.old)
         ≡ told colors_in result (left words.new) }
     ensures all { IfOk result (λ h. h.count ≡ n) }
+    ensures list { words.new.words ≡ words.old.words }
 {
     let mut b = first;
     let mut last = from;
@@ -100,6 +103,7 @@ fn read_more(
     ensures reads { read_more bd from.0 (n - held.count) (colors_in held) (left words.old)
         ≡ told colors_in result (left words.new) }
     ensures all { IfOk result (λ h. h.count ≡ n) }
+    ensures list { words.new.words ≡ words.old.words }
 {
     if n <= held.count {
         return Ok(held);
@@ -114,6 +118,7 @@ fn read_literals(words: &mut Reading, mut held: Held, n: usize, bd: u32) -> Resu
     ensures reads { read_literals bd (n - held.count) (colors_in held) (left words.old)
         ≡ told colors_in result (left words.new) }
     ensures all { IfOk result (λ h. h.count ≡ n) }
+    ensures list { words.new.words ≡ words.old.words }
 {
     if n <= held.count {
         return Ok(held);
@@ -129,6 +134,7 @@ pub fn read_colors(words: &mut Reading, bd: u32, cache: &[u16]) -> Result<Held, 
     requires { (8 ≤ bd) × (bd ≤ 12) }
     ensures reads { read_colors bd cache.now (left words.old) ≡ told colors_in result (left words.new) }
     ensures two { IfOk result (λ h. 2 ≤ h.count) }
+    ensures list { words.new.words ≡ words.old.words }
 {
     let size = words.take(3, 0, 7)?;
     let n = size as usize + 2;

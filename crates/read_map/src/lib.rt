@@ -38,6 +38,7 @@ impl<'a> Plan<'a> {
     fn read_first(&self, words: &mut Reading) -> Result<Index, Refusal>
         ensures reads { due 2 self.now.n self.now.n (left words.old) ≡ told (λ index. index.0) result (left words.new) }
         ensures low { IfOk result (λ index. index.0 < self.now.n) }
+        ensures list { words.new.words ≡ words.old.words }
     {
         let n = self.n as u32;
         let index = words.take(2, n, n)?;
@@ -57,6 +58,7 @@ impl<'a> Plan<'a> {
         ensures reads { read_ranked self.now.n (around_in map.now self.now.scan l a) (left words.old)
             ≡ told (λ index. index.0) result (left words.new) }
         ensures low { IfOk result (λ index. index.0 < self.now.n) }
+        ensures list { words.new.words ≡ words.old.words }
     {
         let key = self.scan.key_cell(map, &self.tables.codes, l, a);
         let rank = words.take(5, ((self.n - 2) * 5 + key.ctx) as u32, self.n as u32)?;
@@ -76,6 +78,7 @@ impl<'a> Plan<'a> {
         ensures reads { read_index self.now.n self.now.scan l a map.now (left words.old)
             ≡ told (λ index. index.0) result (left words.new) }
         ensures low { IfOk result (λ index. index.0 < self.now.n) }
+        ensures list { words.new.words ≡ words.old.words }
     {
         if l + a == 0 {
             return self.read_first(words);
@@ -90,6 +93,7 @@ impl<'a> Plan<'a> {
         ensures reads { read_up_to (read_cell self.now.n self.now.scan l) self.now.scan.len map.old (left words.old)
             ≡ told (λ _. map.new) result (left words.new) }
         ensures below { Below map.new self.now.n }
+        ensures list { words.new.words ≡ words.old.words }
     {
         for a in 0..self.scan.len {
             let index = self.read_index(words, map, l, a)?;
@@ -111,6 +115,7 @@ impl<'a> Plan<'a> {
         ensures reads { read_cells flag self.now.n self.now.scan l map.old (left words.old)
             ≡ told (λ _. map.new) result (left words.new) }
         ensures below { Below map.new self.now.n }
+        ensures list { words.new.words ≡ words.old.words }
     {
         if flag == 0 {
             return self.read_cells(words, map, l);
@@ -133,8 +138,9 @@ impl<'a> Plan<'a> {
     ) -> Result<(), Refusal>
         requires ready { Ready self.now map.old }
         requires flag_each { length flags.old ≡ self.now.scan.lines }
-        ensures { read_lines self.now.n self.now.scan (record { flags = flags.old; map = map.old }) (left words.old)
+        ensures reads { read_lines self.now.n self.now.scan (record { flags = flags.old; map = map.old }) (left words.old)
             ≡ told (λ _. record { flags = flags.new; map = map.new }) result (left words.new) }
+        ensures list { words.new.words ≡ words.old.words }
     {
         let mut ctx = 3;
         for l in 0..self.scan.lines {

@@ -1,13 +1,13 @@
 // One word of a call list after the other: a reading holds the list and the place reached in it, and each step takes one word.
 #![tactic(auto)]
 
-ghost use Rattle.std.specs.Prelude.{◌≡◌, ◌<◌, IfOk};
+ghost use Rattle.std.specs.Prelude.{◌≡◌, ◌+◌, ◌<◌, IfOk, OnOk, OnErr};
 ghost use Rattle.reader.specs.Reader.{due};
 ghost use Rattle.reader.specs.Steps.{told, left};
 
 use refusals::Refusal;
 
-// After a refusal the place is of no account.
+// A refused step leaves it as it was; after the refusal of a reader of several steps the place is of no account.
 #[derive(Clone, Copy)]
 pub struct Reading<'a> {
     pub words: &'a [u32],
@@ -20,6 +20,9 @@ impl<'a> Reading<'a> {
         requires { (kind < 128) × (first < 256) }
         ensures reads { due kind first limit (left self.old) ≡ told (λ second. second) result (left self.new) }
         ensures below { IfOk result (λ second. second < limit) }
+        ensures list { self.new.words ≡ self.old.words }
+        ensures next { OnOk result (self.new.at ≡ self.old.at + 1) }
+        ensures stays { OnErr result (self.new ≡ self.old) }
     {
         let Some(word) = self.words.get(self.at) else {
             return Err(Refusal::ListEnd);

@@ -32,7 +32,8 @@ struct Head<'a> {
 
 // The orientation bit, where it is sent; else plain.
 fn read_orient(words: &mut Reading, w: usize, h: usize) -> Result<bool, Refusal>
-    ensures { read_orient w h (left words.old) ≡ told (λ transposed. transposed) result (left words.new) }
+    ensures reads { read_orient w h (left words.old) ≡ told (λ transposed. transposed) result (left words.new) }
+    ensures list { words.new.words ≡ words.old.words }
 {
     if !counts::orient_sent(w, h) {
         return Ok(false);

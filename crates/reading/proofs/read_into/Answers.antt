@@ -20,11 +20,11 @@ pub returns-in_err-transposed : goal.returns-in_err-transposed
 returns-in_err-transposed c =
     reads_err _ _ _ _ _ c.from_residual-in_err-transposed.ensures.1
     (passed_on _ _ _ _ _ _ _ (sym c.in_ok-limits.ensures)
-    ∙ judged_fault _ _ _ _ _ _ (orient_next _ _ _ _ _ _ _ c.in_ok-held.ensures.reads _ c.in_err-transposed.ensures))
+    ∙ judged_fault _ _ _ _ _ _ (orient_next _ _ _ _ _ _ _ c.in_ok-held.ensures.reads _ c.in_err-transposed.ensures.reads))
 
 pub read_behind-requires-clause-headed : goal.read_behind-requires-clause-headed
 read_behind-requires-clause-headed c =
-    headed _ (sizes _ _ _ _ _ _ (sym c.in_ok-limits.ensures)).inside c.in_ok-held.ensures.two _ c.in_ok-held.ensures.reads c.in_ok-transposed.ensures
+    headed _ (sizes _ _ _ _ _ _ (sym c.in_ok-limits.ensures)).inside c.in_ok-held.ensures.two _ c.in_ok-held.ensures.reads c.in_ok-transposed.ensures.reads
 
 pub read_behind-requires-clause-room : goal.read_behind-requires-clause-room
 read_behind-requires-clause-room c =

@@ -14,19 +14,19 @@ read_lines-requires-clause-ready c =
 pub returns-in_err-read_lines : goal.returns-in_err-read_lines
 returns-in_err-read_lines c =
     outcome_err c.args.b.now _ _ _ _ _ c.from_residual.ensures.1
-    (judged_fault _ _ _ _ _ _ (lines_last c.args.b.now c.requires.headed _ _ _ c.new.ensures c.requires.blank _ c.in_err-read_lines.ensures))
+    (judged_fault _ _ _ _ _ _ (lines_last c.args.b.now c.requires.headed _ _ _ c.new.ensures c.requires.blank _ c.in_err-read_lines.ensures.reads))
 
 pub returns-then-reading : goal.returns-then-reading
 returns-then-reading c =
-    judged_more _ _ _ _ _ _ _ _ (lines_last c.args.b.now c.requires.headed _ _ _ c.new.ensures c.requires.blank _ c.in_ok-read_lines.ensures)
+    judged_more _ _ _ _ _ _ _ _ (lines_last c.args.b.now c.requires.headed _ _ _ c.new.ensures c.requires.blank _ c.in_ok-read_lines.ensures.reads)
     c.if-reading.true
 
 pub returns-then-not-relists : goal.returns-then-not-relists
 returns-then-not-relists c =
-    judged_whole _ _ _ _ _ _ _ _ (lines_last c.args.b.now c.requires.headed _ _ _ c.new.ensures c.requires.blank _ c.in_ok-read_lines.ensures)
+    judged_whole _ _ _ _ _ _ _ _ (lines_last c.args.b.now c.requires.headed _ _ _ c.new.ensures c.requires.blank _ c.in_ok-read_lines.ensures.reads)
     c.if-reading.false _ (sym c.if-not-relists.true ∙ c.relists.ensures)
 
 pub returns : goal.returns
 returns c =
-    judged_whole _ _ _ _ _ _ _ _ (lines_last c.args.b.now c.requires.headed _ _ _ c.new.ensures c.requires.blank _ c.in_ok-read_lines.ensures)
+    judged_whole _ _ _ _ _ _ _ _ (lines_last c.args.b.now c.requires.headed _ _ _ c.new.ensures c.requires.blank _ c.in_ok-read_lines.ensures.reads)
     c.if-reading.false _ (sym c.if-not-relists.false ∙ c.relists.ensures)
