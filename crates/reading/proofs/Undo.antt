@@ -29,6 +29,7 @@ use Rattle.lists.proofs.Same.{same_is, same_refl}
 use Rattle.reader.proofs.Words.{bit_below, bit_eqb}
 use Rattle.reading.proofs.Colors.{colors_read}
 use Rattle.reader.proofs.Takes.{Takes, done, one, then, last}
+use Rattle.reading.proofs.Answers.{passed_on}
 use Rattle.reading.proofs.Lines.{lines_read}
 
 -- ---- what is listed is read
@@ -134,16 +135,21 @@ read_of_list w h bd cache p cells lines g k a =
       same_refl list,
     ) refl
 
--- a palette that is listed to these words is what is read
-pub listed_back : (w h bd : ℕ) (cache : List ℕ) (p : Palette) (ws : List ℕ) → relists w h bd cache p ws ≡ true
+-- a palette that is listed to these words is what they are judged as
+pub judged_back : (w h bd : ℕ) (cache : List ℕ) (p : Palette) (ws : List ℕ) → relists w h bd cache p ws ≡ true
     → judge w h bd cache ws (read_palette w h bd cache ws) ≡ back p
 unfolding judge relists
-listed_back w h bd cache p ws f =
+judged_back w h bd cache p ws f =
     let z : refusal w h bd (length cache) p ≡ 0 = eqb-true _ 0 (and_l (eqb (refusal w h bd (length cache) p) 0) _ f) in
     let l : call_list w h bd cache p ≡ ws = same_is _ ws (and_r (eqb (refusal w h bd (length cache) p) 0) _ f) in
     let list = call_list w h bd cache p in
     let e : read_palette w h bd cache list ≡ got p [] = rw (← append-nil list) (read_back w h bd cache p [] (accepted_of_zero w h bd cache p z)) in
     ap (λ (x : List ℕ). judge w h bd cache x (read_palette w h bd cache x)) (sym l) ∙ rw (e, z, same_refl list) refl
+
+-- a palette that is listed to these words is what is read
+pub listed_back : (w h bd : ℕ) (cache : List ℕ) (p : Palette) (cells lines : ℕ) (ws : List ℕ) → limits w h bd (length cache) cells lines ≡ 0
+    → relists w h bd cache p ws ≡ true → reading w h bd cache cells lines ws ≡ back p
+listed_back w h bd cache p cells lines ws passed f = passed_on w h bd cache cells lines ws passed ∙ judged_back w h bd cache p ws f
 
 pub exactly_same : ReadExactlySame
 exactly_same w h bd cache p q cells lines cells' lines' ws vs r s =

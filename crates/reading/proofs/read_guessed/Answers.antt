@@ -1,7 +1,7 @@
 use mathlib.Core.Path.{sym, ◌∙◌}
 use Rattle.scan.proofs.Fill.{below_8}
 use Rattle.reading.proofs.Ahead.{scan_ready, none_above, flag_each}
-use Rattle.reading.proofs.Undo.{listed_back}
+use Rattle.reading.proofs.Undo.{judged_back}
 use Rattle.reading.proofs.read_guessed.Goals as goal
 
 pub guess_lines-requires : goal.guess_lines-requires
@@ -14,4 +14,4 @@ guess_lines-requires c =
     )
 
 pub returns : goal.returns
-returns c = listed_back _ _ _ _ _ _ (sym c.relists-listed.ensures ∙ c.if-not-listed.false)
+returns c = judged_back _ _ _ _ _ _ (sym c.relists-listed.ensures ∙ c.if-not-listed.false)
