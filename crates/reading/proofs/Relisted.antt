@@ -1,11 +1,11 @@
 -- The list made again. Assumes nothing.
 use mathlib.Core.Path.{◌≡◌, refl, sym, ap, ◌∙◌}
-use mathlib.Core.Bool.{Bool, true, false, cond, ◌&&◌}
+use mathlib.Core.Bool.{Bool, true, false, cond, ◌&&◌, true≢false}
 use mathlib.Core.List.{List, [], ◌∷◌, ◌++◌}
-use Prim.Native.Nat.{ℕ, ◌≤◌}
+use Prim.Native.Nat.{ℕ, suc, ◌<◌, ◌≤◌}
 use native.Mathlib.Omega.{arith}
 use lib.Dec.{eqb, leb}
-use lib.ListN.{length, take, drop}
+use lib.ListN.{length, get_or, take, drop}
 use lib.Pointwise.{pointwise}
 use lib.Seq.{take_at}
 use borrow.Author.Tests.{eq-eqb, ne_eqb, le-leb, eqb-true}
@@ -26,6 +26,24 @@ same_compared [] [] = refl
 same_compared [] (y ∷ ys) = refl
 same_compared (x ∷ xs) [] = refl
 same_compared (x ∷ xs) (y ∷ ys) = ap (λ (b : Bool). eqb x y && b) (same_compared xs ys)
+
+-- a place where two lists differ
+abbrev pub Differ : List ℕ → List ℕ → Type 0
+Differ xs ys = (k : ℕ) × (k < length ys) × (get_or xs k 0 ≡ get_or ys k 0 → ⊥)
+
+differ_within : (xs ys : List ℕ) → length ys ≤ length xs → same_list (take (length ys) xs) ys ≡ false → Differ xs ys
+unfolding same_list
+differ_within xs [] h e = absurd (true≢false e)
+differ_within [] (y ∷ ys) h e = absurd (omega (arith, h))
+differ_within (x ∷ xs) (y ∷ ys) h e = go (eqb x y) refl e (λ e. differ_within xs ys (omega (arith, h)) e)
+  where
+    go : (b : Bool) → eqb x y ≡ b → b && same_list (take (length ys) xs) ys ≡ false
+        → (same_list (take (length ys) xs) ys ≡ false → Differ xs ys) → Differ (x ∷ xs) (y ∷ ys)
+    go true p q d = let z = d q in (suc z.0, omega (arith, z.1), z.2)
+    go false p q d = (0, omega arith, λ z. true≢false (sym (eq-eqb x y z) ∙ p))
+
+pub differ : (n : ℕ) (xs ys : List ℕ) → n ≤ length xs → n ≡ length ys → same_list (take n xs) ys ≡ false → Differ xs ys
+differ n xs ys h e f = differ_within xs ys (omega (arith, h, e)) (rw e at f)
 
 module _ (w h bd : ℕ) (cache : List ℕ) (p : Palette) (before after' : List ℕ) (r : Listed) (l : Lists w h bd cache p before after' r)
     (room : 4234 ≤ length before) (ws : List ℕ) where
