@@ -365,7 +365,9 @@ impl<'a> Pricing<'a> {
         rates(self.costs, self.n, ctx, first)
     }
 
-    // The cheapest index for the sample x, the first of the cheapest in rank order.
+    // The cheapest index for the sample x, the first of the cheapest in rank order. In line, so that no cell stands in memory:
+    // what is put there in parts and taken as a whole is waited for.
+    #[inline(always)]
     pub fn choose(&self, orders: &rows::Orders, row: usize, rates: &[f32; 8], x: f32) -> Cell
         requires { Fits row self.now.n }
         ensures { result ≡ cell_of (squares_of x self.now.colors) rates.now self.now.lambda (row_order row self.now.n) }

@@ -1,7 +1,7 @@
 -- The steps of `color_ctx`: what a neighbour tells, and how its answers make up `context_of`. Assumes nothing.
 use Rattle.std.specs.Prelude.{Option, Some, None}
 use mathlib.Core.Path.{◌≡◌, refl, sym, ap, ◌∙◌}
-use mathlib.Core.Bool.{Bool, true, false, cond}
+use mathlib.Core.Bool.{Bool, true, false, cond, ◌&&◌}
 use mathlib.Core.List.{List, [], ◌∷◌}
 use Prim.Native.Nat.{ℕ, zero, suc, ◌+◌, ◌-◌, ◌*◌, ◌≤◌, ◌<◌, min}
 use native.Mathlib.Nat.{suc-mul}
@@ -52,6 +52,15 @@ edge c = record { number = c.number; ctx = 0; order = c.order; ranks = c.ranks }
 pub edge_answer_holds : (v n : ℕ) → edge (answered (by_three v v v) n) ≡ answered (record { ctx = 0; firsts = v ∷ [] }) n
 unfolding answered by_three choose order_of rank_of
 edge_answer_holds v n = rw (eq-eqb v v refl) refl
+
+edge_by : (b : Bool) (x y : Context) → edge x ≡ y
+    → edge (cond (b && (b && (b && true))) x refused) ≡ cond (b && true) y refused
+edge_by true x y e = e
+edge_by false x y e = refl
+
+pub one_three : (map : List ℕ) (n p : ℕ) → edge (three_at map n p p p) ≡ one_at map n p
+unfolding three_at one_at all_in
+one_three map n p = edge_by (usable map n p) _ _ (edge_answer_holds (get_or map p 0) n)
 
 -- ---- past the map's end
 

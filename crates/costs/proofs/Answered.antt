@@ -1,18 +1,31 @@
 -- The answer from its parts. Assumes nothing.
-use mathlib.Core.Path.{◌≡◌, sym, ◌∙◌}
-use mathlib.Core.Bool.{true, false}
+use mathlib.Core.Path.{◌≡◌, refl, sym, ◌∙◌}
+use mathlib.Core.Bool.{Bool, true, false, cond, not}
 use mathlib.Core.List.{List}
+use mathlib.Core.Logic.{◌⊎◌, inl, inr}
 use Prim.Native.Nat.{ℕ}
 use native.Mathlib.Omega.{arith}
 use lib.Dec.{eqb}
-use lib.ListN.{replicate}
+use lib.ListN.{length, replicate}
 use lib.Ieee.{Float, binary32, of_bits}
-use borrow.Author.Tests.{eq-eqb, ne_eqb}
+use borrow.Author.Tests.{eqb-true, eq-eqb, ne_eqb}
+use Rattle.lists.proofs.Choice.{held}
 use Rattle.refusals.specs.declared.Refusal.{Refusal}
 use Rattle.refusals.specs.declared.Refusal.TheVariants.{Side, Depth, SampleCount, Lambda, Costs, Sample, Room, Small, OneLevel, ManyLevels, Colors, Orientation, Cache, Lengths, Map, WordRoom, Text, Context, BlockCount, ListEnd, Word, WordsLeft, NotListed, AdaptedLength, AdaptedRows}
 use Rattle.refusals.specs.Numbers.{number_of}
-use Rattle.costs.specs.Rows.{defaults}
+use Rattle.costs.specs.Rows.{defaults, rows_ok}
 use Rattle.costs.specs.Costs.{table_costs, table_of, costs_number, costs_of, MakesCosts}
+
+-- an accepted table has 0 or 260 numbers
+pub length_known : (adapted : List ℕ) → costs_number adapted ≡ 0 → (length adapted ≡ 0) ⊎ (length adapted ≡ 260)
+unfolding costs_number
+length_known adapted e = go (eqb (length adapted) 0) refl e
+  where
+    go : (b : Bool) → eqb (length adapted) 0 ≡ b
+        → ◌≡◌ {A = ℕ} (cond b 0 (cond (not (eqb (length adapted) 260)) 24 (cond (not (rows_ok adapted)) 25 0))) 0
+        → (length adapted ≡ 0) ⊎ (length adapted ≡ 260)
+    go true t z = inl (eqb-true _ 0 t)
+    go false t z = inr (eqb-true _ 260 (held (eqb (length adapted) 260) 23 _ z).0)
 
 -- a refusal has a number
 some : (refusal : Refusal) → number_of refusal ≡ 0 → ⊥
